@@ -1,3 +1,4 @@
+pub mod Appending
 pub mod ReadWords
 pub mod ReadSteps
 pub mod Listed

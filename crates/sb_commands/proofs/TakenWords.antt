@@ -367,11 +367,6 @@ command_is_found form (name ∷ words) (listed, ok) = ap (with_form words) liste
     by (Ok values) k = refl
     by (Err fault) k = absurd (true≢false (sym k))
 
--- their values
-pub values_are : (form : Form) (words : List Text) (values : Values) → HasValues form words values → values ≡ values_in form words
-values_are form [] values h = absurd h
-values_are form (name ∷ words) values h = sym (ap values_or_none h)
-
 -- their numbers are within their bounds
 pub numbers_are : (form : Form) (words : List Text) → IsCommandOf form words → HasNumbers (command_in form words)
 numbers_are form [] command = absurd command

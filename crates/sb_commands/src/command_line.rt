@@ -1,6 +1,6 @@
 // The command lines as the library that reads them sees them: each for the arguments of one command, whose name is where the name of a program would be.
 ghost use Rattle.std.specs.Prelude.{◌≡◌, IfOk, false, map, option_map};
-ghost use Rattle.clap.specs.Words.{app_of, first_value, found_of, rule_of, with_rule};
+ghost use Rattle.clap.specs.Words.{first_value, found_of, rule_of};
 ghost use Rattle.sb_commands.specs.CommandLine.{option_argument, found_values, optional_argument, line_of, names_of, required_argument, with_choice, with_last, with_required};
 ghost use Rattle.sb_text.specs.MissingTexts.{or_empty};
 ghost use Rattle.sb_commands.specs.Forms.{choice_of, form_of, place_of};
@@ -8,8 +8,9 @@ ghost use Rattle.sb_commands.specs.Usage.{option_number};
 ghost use Rattle.sb_commands.specs.Values.{values_of};
 
 use crate::forms::{CommandForm, FormOption, FormPlace};
+use crate::line_builder::LineBuilder;
 use crate::number_words::number_of;
-use clap::{Arg, ArgAction, ArgMatches, Command};
+use clap::{Arg, ArgAction, ArgMatches};
 use std::alloc::{AllocError, Global};
 
 /// The values of the arguments of a command.
@@ -63,26 +64,17 @@ fn names_of<'a>(places: &[FormPlace<'static>]) -> &'a [&'a str]
     }
 }
 
-// A command line with one argument more.
-fn with_argument<'a>(line: Command<'a>, argument: Arg<'a>) -> Result<Command<'a>, AllocError>
-    requires { argument.global ≡ false }
-    ensures { IfOk result (λ c. app_of c ≡ with_rule (app_of line.entry) (rule_of argument.entry)) }
-{
-    let line = line.arg(argument)?;
-    Ok(line)
-}
-
-// With arguments of these names that have to be there.
+// A command line with arguments of these names that have to be there.
 fn with_required<'a>(
     alloc: Global,
-    line: Command<'a>,
+    line: LineBuilder<'a>,
     names: &[&'a str],
-) -> Result<Command<'a>, AllocError>
-    ensures { IfOk result (λ c. app_of c ≡ with_required (map (λ name. name.now) names.now) (app_of line.entry)) }
+) -> Result<LineBuilder<'a>, AllocError>
+    ensures { IfOk result (λ l. l ≡ with_required (map (λ name. name.now) names.now) line.entry) }
 {
     let mut line = line;
     for name in names {
-        line = with_argument(line, required_argument(alloc, *name))?;
+        line = line.with(required_argument(alloc, *name))?;
     }
     Ok(line)
 }
@@ -90,45 +82,45 @@ fn with_required<'a>(
 // With the file that may be left out.
 fn with_last<'a>(
     alloc: Global,
-    line: Command<'a>,
+    line: LineBuilder<'a>,
     last: Option<&'static str>,
-) -> Result<Command<'a>, AllocError>
-    ensures { IfOk result (λ c. app_of c ≡ with_last (option_map (λ name. name.now) last.entry) (app_of line.entry)) }
+) -> Result<LineBuilder<'a>, AllocError>
+    ensures { IfOk result (λ l. l ≡ with_last (option_map (λ name. name.now) last.entry) line.entry) }
 {
-    let Some(_) = last else {
-        return Ok(line);
-    };
-    let line = with_argument(line, optional_argument(alloc, "last"))?;
-    Ok(line)
+    match last {
+        Some(_) => line.with(optional_argument(alloc, "last")),
+        None => Ok(line),
+    }
 }
 
 // With the option.
 fn with_choice<'a>(
     alloc: Global,
-    line: Command<'a>,
+    line: LineBuilder<'a>,
     option: Option<FormOption<'static>>,
-) -> Result<Command<'a>, AllocError>
-    ensures { IfOk result (λ c. app_of c ≡ with_choice (option_map choice_of option.entry) (app_of line.entry)) }
+) -> Result<LineBuilder<'a>, AllocError>
+    ensures { IfOk result (λ l. l ≡ with_choice (option_map choice_of option.entry) line.entry) }
 {
-    let Some(option) = option else {
-        return Ok(line);
-    };
-    let line = with_argument(line, option_argument(alloc, option.flag))?;
-    Ok(line)
+    match option {
+        Some(option) => line.with(option_argument(alloc, option.flag)),
+        None => Ok(line),
+    }
 }
 
 /// The command line of a form.
+///
+/// # Errors
+/// If there was no memory for it.
 pub(crate) fn line_of<'a>(
     alloc: Global,
     form: CommandForm<'static>,
-) -> Result<Command<'a>, AllocError>
-    ensures { IfOk result (λ c. app_of c ≡ line_of (form_of form.entry)) }
+) -> Result<LineBuilder<'a>, AllocError>
+    ensures { IfOk result (λ l. l ≡ line_of (form_of form.entry)) }
 {
-    let line = Command::new(alloc, "sandbox");
+    let line = LineBuilder::new(alloc);
     let line = with_required(alloc, line, names_of(form.places))?;
     let line = with_last(alloc, line, form.last)?;
-    let line = with_choice(alloc, line, form.option)?;
-    Ok(line)
+    with_choice(alloc, line, form.option)
 }
 
 // The text of an argument, empty if there is none.

@@ -26,7 +26,8 @@ fn read_values<'a>(
     requires { IsCommandOf (form_of form) (texts words.now) }
     ensures { IfOk result (λ values. HasValues (form_of form.entry) (texts words.now) (values_of values)) }
 {
-    match line_of(alloc, form)?.try_get_matches_from(words) {
+    let line = line_of(alloc, form)?;
+    match line.into_command().try_get_matches_from(words) {
         Ok(values) => Ok(found_values(form, &values)),
         Err(error) => match error.kind() {
             ErrorKind::OutOfMemory => Err(NoMemory),

@@ -1,6 +1,6 @@
 // The forms of all commands, in one table.
-ghost use Rattle.std.specs.Prelude.{◌≡◌, option_map};
-ghost use Rattle.sb_commands.specs.Forms.{form_by, form_of, form_with, forms, works};
+ghost use Rattle.std.specs.Prelude.{◌≡◌, map, option_map};
+ghost use Rattle.sb_commands.specs.Forms.{form_by, form_in, form_of, form_with, forms, works};
 ghost use Rattle.sb_commands.specs.declared.works.Work.TheVariants.{Plain};
 ghost use Rattle.sb_commands.specs.UsageMessages.{forms_text};
 
@@ -229,15 +229,22 @@ pub fn forms_text() -> &'static str
     FORMS_TEXT
 }
 
-/// The form of the command of this name.
-pub fn form_by(name: &str) -> Option<CommandForm<'static>>
-    ensures { option_map form_of result ≡ form_by name.now }
+// The first form of this name among those of commands that do this.
+fn form_among(works: &[Work], name: &str) -> Option<CommandForm<'static>>
+    ensures { option_map form_of result ≡ form_in (map form_with works.now) name.now }
 {
-    for work in all_works() {
+    for work in works {
         let form = form_with(*work);
         if name == form.name {
             return Some(form);
         }
     }
     None
+}
+
+/// The form of the command of this name.
+pub fn form_by(name: &str) -> Option<CommandForm<'static>>
+    ensures { option_map form_of result ≡ form_by name.now }
+{
+    form_among(all_works(), name)
 }

@@ -12,6 +12,7 @@ mod forms;
 mod help_texts;
 mod inquiries;
 mod laws;
+mod line_builder;
 mod linked_help;
 mod local_help;
 mod make_help;

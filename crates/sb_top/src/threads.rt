@@ -18,7 +18,6 @@ use std::thread::Threads;
 ///
 /// # Errors
 /// `NoMemory` if memory for the programs or the run runs out.
-#[tactic(auto, using(crate::proofs::Sound::few_results))]
 pub fn run_judged<R: Threads + Wait + Sync, G: Gate>(
     rt: &R,
     alloc: Global,
