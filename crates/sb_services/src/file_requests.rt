@@ -2,7 +2,7 @@
 ghost use Rattle.std.specs.Prelude.{◌≡◌, ⊤, ◌∷◌, [], codes, IfSome};
 ghost use Rattle.sb_services.specs.FileRequests.{create_request, disposition_of, is_invalid, needs_free_name, needs_object, open_request, replaces, valid_request, wants_directory, wants_file};
 
-use bitflags::{Flag, Flags, bitflag_items};
+use bitflags::{Flag, Flags};
 use sb_handles::{Access, Sharing};
 
 /// What to do if the name is there, and if it is not (`CreateDisposition`).
@@ -74,13 +74,23 @@ impl Disposition {
 #[derive(Clone, Copy)]
 pub struct FileOptions(u64);
 
-bitflag_items! {
-    impl FileOptions: u64 {
-        /// For directories alone (`FILE_DIRECTORY_FILE`).
-        const DIRECTORY = 1;
-        /// For files alone (`FILE_NON_DIRECTORY_FILE`).
-        const NON_DIRECTORY = 0x40;
-    }
+impl FileOptions {
+    /// For directories alone (`FILE_DIRECTORY_FILE`).
+    pub const DIRECTORY: FileOptions = FileOptions(1);
+
+    /// For files alone (`FILE_NON_DIRECTORY_FILE`).
+    pub const NON_DIRECTORY: FileOptions = FileOptions(0x40);
+
+    const FLAGS: &'static [Flag<FileOptions>] = &[
+        Flag {
+            name: "DIRECTORY",
+            value: FileOptions::DIRECTORY,
+        },
+        Flag {
+            name: "NON_DIRECTORY",
+            value: FileOptions::NON_DIRECTORY,
+        },
+    ];
 }
 
 impl Flags for FileOptions {
