@@ -16,7 +16,7 @@ use Rattle.sb_base.specs.Names.{is_name_of}
 use Rattle.sb_names.specs.Keys.{key_of}
 use Rattle.sb_names.specs.Maps.{found, is_key}
 use Rattle.sb_names.specs.Renames.{renamed_key}
-use Rattle.sb_services.specs.Creation as creation
+use Rattle.sb_services.specs.FileCreation as creation
 use Rattle.sb_services.specs.Files as files
 use Rattle.sb_services.specs.FileLaws as file_laws
 use Rattle.sb_services.specs.declared.file_requests.FileRequest.{FileRequest}
@@ -26,9 +26,9 @@ use Rattle.sb_services.specs.declared.pipe_rows.PipeRow.{PipeRow}
 use Rattle.sb_services.specs.KeyLaws as key_laws
 use Rattle.sb_services.specs.Registry as registry
 use Rattle.sb_services.specs.Events as events
-use Rattle.sb_services.specs.declared.kinds.EventKind.{EventKind}
-use Rattle.sb_services.specs.declared.modes.PipeForm.{PipeForm}
-use Rattle.sb_services.specs.declared.modes.PipeMode.{PipeMode}
+use Rattle.sb_services.specs.declared.event_kinds.EventKind.{EventKind}
+use Rattle.sb_services.specs.declared.pipe_modes.PipeForm.{PipeForm}
+use Rattle.sb_services.specs.declared.pipe_modes.PipeMode.{PipeMode}
 use Rattle.sb_services.specs.EventLaws as event_laws
 use Rattle.sb_services.specs.Events.{number_of}
 use Rattle.sb_kernel.specs.Held.{AreHeld, AreNarrow, HasRow, HaveRows, IsUnder, is_narrow, itself}

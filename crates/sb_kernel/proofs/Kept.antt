@@ -19,13 +19,13 @@ use Rattle.sb_services.specs.PipeLaws.{CallsGrantTheirPipe, CallsKeepCounts, Gra
 use Rattle.sb_services.specs.Pipes as pipes
 use Rattle.sb_services.specs.Registry as registry
 use Rattle.sb_services.specs.Events as events
-use Rattle.sb_services.specs.declared.kinds.EventKind.{EventKind}
-use Rattle.sb_services.specs.declared.modes.PipeForm.{PipeForm}
-use Rattle.sb_services.specs.declared.modes.PipeMode.{PipeMode}
+use Rattle.sb_services.specs.declared.event_kinds.EventKind.{EventKind}
+use Rattle.sb_services.specs.declared.pipe_modes.PipeForm.{PipeForm}
+use Rattle.sb_services.specs.declared.pipe_modes.PipeMode.{PipeMode}
 use Rattle.sb_kernel.specs.Kept.{IsKept}
 use Rattle.sb_statements.specs.Limits.{most_start_lines}
 use Rattle.sb_kernel.specs.Namespaces.{Space}
-use Rattle.sb_services.specs.Creation as creation
+use Rattle.sb_services.specs.FileCreation as creation
 use Rattle.sb_names.specs.Maps.{found}
 use Rattle.sb_kernel.specs.Held.{AreHeld}
 use Rattle.sb_kernel.proofs.Holding.{events_held, files_held, found_held, keys_held, pipes_held, reached_held, renamed_held}

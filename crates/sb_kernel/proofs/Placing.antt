@@ -9,7 +9,7 @@ use Rattle.sb_services.specs.Files as files
 use Rattle.sb_services.specs.declared.file_objects.FileObject.{FileObject}
 use Rattle.sb_services.specs.Registry as registry
 use Rattle.sb_services.specs.Events as events
-use Rattle.sb_services.specs.Kinds.{kind_from, state_from}
+use Rattle.sb_services.specs.EventKinds.{kind_from, state_from}
 use Rattle.sb_kernel.specs.Kept.{MadeAtMost}
 use Rattle.sb_kernel.specs.Namespaces.{Space, empty_space}
 use Rattle.sb_kernel.specs.Openings.{placed, opened_from, OpeningsMakeFew}

@@ -3,11 +3,11 @@ use Rattle.std.proofs.Common.{◌≤◌, ℕ, Bool, true, false, not, if◌then�
 use Rattle.sb_call.specs.Statuses.{refusal, path_not_found}
 use Rattle.sb_call.specs.declared.replies.Answer.{Answer}
 use Rattle.sb_services.specs.Events as events
-use Rattle.sb_services.specs.declared.kinds.EventKind.{EventKind}
-use Rattle.sb_services.specs.declared.modes.PipeForm.{PipeForm}
-use Rattle.sb_services.specs.declared.modes.PipeMode.{PipeMode}
+use Rattle.sb_services.specs.declared.event_kinds.EventKind.{EventKind}
+use Rattle.sb_services.specs.declared.pipe_modes.PipeForm.{PipeForm}
+use Rattle.sb_services.specs.declared.pipe_modes.PipeMode.{PipeMode}
 use Rattle.sb_services.specs.declared.event_rows.EventRow.{EventRow}
-use Rattle.sb_services.specs.Creation as creation
+use Rattle.sb_services.specs.FileCreation as creation
 use Rattle.sb_services.specs.Files as files
 use Rattle.sb_services.specs.FileRequests.{replaces}
 use Rattle.sb_services.specs.declared.file_requests.FileRequest.{FileRequest}

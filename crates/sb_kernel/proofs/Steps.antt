@@ -8,7 +8,7 @@ use Rattle.sb_handles.specs.declared.objects.Service.{Service}
 use Rattle.sb_handles.specs.declared.objects.Service.TheVariants as service
 use Rattle.sb_names.specs.Maps.{found}
 use Rattle.sb_names.specs.Trees.{has_parent}
-use Rattle.sb_services.specs.Creation as creation
+use Rattle.sb_services.specs.FileCreation as creation
 use Rattle.sb_services.specs.Files as files
 use Rattle.sb_services.specs.FileRequests.{needs_free_name, needs_object, replaces, wants_directory, wants_file}
 use Rattle.sb_services.specs.declared.file_requests.FileRequest.{FileRequest}
@@ -16,10 +16,10 @@ use Rattle.sb_services.specs.Pipes as pipes
 use Rattle.sb_services.specs.declared.pipe_rows.PipeRow.{PipeRow}
 use Rattle.sb_services.specs.Registry as registry
 use Rattle.sb_services.specs.Events as events
-use Rattle.sb_services.specs.Kinds.{kind_number}
-use Rattle.sb_services.specs.declared.kinds.EventKind.{EventKind}
-use Rattle.sb_services.specs.declared.modes.PipeForm.{PipeForm}
-use Rattle.sb_services.specs.declared.modes.PipeMode.{PipeMode}
+use Rattle.sb_services.specs.EventKinds.{kind_number}
+use Rattle.sb_services.specs.declared.event_kinds.EventKind.{EventKind}
+use Rattle.sb_services.specs.declared.pipe_modes.PipeForm.{PipeForm}
+use Rattle.sb_services.specs.declared.pipe_modes.PipeMode.{PipeMode}
 use Rattle.sb_services.specs.declared.event_rows.EventRow.{EventRow}
 
 -- a handle more on an object of a service, of which at most one was made

@@ -5,7 +5,7 @@ use Rattle.sb_services.specs.Pipes as pipes
 use Rattle.sb_handles.specs.Tables.{IsTable}
 use Rattle.sb_services.specs.Registry as registry
 use Rattle.sb_services.specs.Events as events
-use Rattle.sb_services.specs.Keeping.{AreNames}
+use Rattle.sb_services.specs.PipeKeeping.{AreNames}
 use Rattle.sb_kernel.specs.Held.{AreHeld}
 use Rattle.sb_kernel.specs.Namespaces.{Space}
 use Rattle.sb_statements.specs.Limits.{most_start_lines}

@@ -10,7 +10,7 @@ use Rattle.sb_handles.specs.Tables.{Table, no_handles, held_by, without_handle}
 use Rattle.sb_handles.specs.declared.objects.Held.{Held}
 use Rattle.sb_handles.specs.declared.objects.Service.{Service}
 use Rattle.sb_handles.specs.declared.objects.Service.TheVariants as service
-use Rattle.sb_services.specs.Creation as creation
+use Rattle.sb_services.specs.FileCreation as creation
 use Rattle.sb_services.specs.Files as files
 use Rattle.sb_services.specs.Pipes as pipes
 use Rattle.sb_services.specs.Registry as registry

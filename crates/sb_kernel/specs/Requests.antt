@@ -10,11 +10,11 @@ use Rattle.sb_handles.specs.Masks.{access_of, sharing_of}
 use Rattle.sb_handles.specs.declared.masks.Access.{Access}
 use Rattle.sb_services.specs.FileRequests.{create_request, open_request}
 use Rattle.sb_services.specs.declared.file_requests.FileRequest.{FileRequest}
-use Rattle.sb_services.specs.Modes.{form_of, mode_of}
-use Rattle.sb_services.specs.declared.modes.PipeForm.{PipeForm}
-use Rattle.sb_services.specs.declared.modes.PipeMode.{PipeMode}
-use Rattle.sb_services.specs.Kinds.{is_invalid, kind_from, state_from}
-use Rattle.sb_services.specs.declared.kinds.EventKind.{EventKind}
+use Rattle.sb_services.specs.PipeModes.{form_of, mode_of}
+use Rattle.sb_services.specs.declared.pipe_modes.PipeForm.{PipeForm}
+use Rattle.sb_services.specs.declared.pipe_modes.PipeMode.{PipeMode}
+use Rattle.sb_services.specs.EventKinds.{is_invalid, kind_from, state_from}
+use Rattle.sb_services.specs.declared.event_kinds.EventKind.{EventKind}
 use Rattle.sb_kernel.specs.declared.requests.Request.TheVariants as borrowed
 use Rattle.sb_kernel.specs.declared.requests.Request as declared
 

@@ -4,7 +4,7 @@ use Rattle.std.specs.Prelude.{is_some, option_map, length, Result, Ok, Err}
 use Rattle.std.proofs.lemmas.Bool.{false≢true}
 use Rattle.std.specs.List.{list_any}
 use Rattle.sb_services.specs.Events as events
-use Rattle.sb_services.specs.Kinds.{kind_from, state_from}
+use Rattle.sb_services.specs.EventKinds.{kind_from, state_from}
 use Rattle.sb_services.specs.declared.event_rows.EventRow.{EventRow}
 use Rattle.sb_services.specs.Files as files
 use Rattle.sb_services.specs.Registry as registry

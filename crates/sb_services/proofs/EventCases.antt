@@ -4,7 +4,7 @@ use Rattle.sb_call.specs.Statuses.{refusal, granting, success, name_exists, type
 use Rattle.sb_handles.specs.Effects.{Effect}
 use Rattle.sb_handles.specs.Tables.{no_handles}
 use Rattle.sb_services.specs.Events.{Events, no_events, create, open_by_name}
-use Rattle.sb_services.specs.declared.kinds.EventKind.TheVariants.{Notification, Synchronization}
+use Rattle.sb_services.specs.declared.event_kinds.EventKind.TheVariants.{Notification, Synchronization}
 
 abbrev first : Effect Events
 first = create no_events no_handles 0 (codes "\\e") Notification true

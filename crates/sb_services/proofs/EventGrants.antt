@@ -9,7 +9,7 @@ use Rattle.sb_names.specs.Keys.{key_of}
 use Rattle.sb_names.specs.Laws.{PutsAreFound}
 use Rattle.sb_names.specs.Maps.{found, is_key}
 use Rattle.sb_services.specs.Events.{Events, create_by, on_event, open_by, shown}
-use Rattle.sb_services.specs.Kinds.{kind_number}
+use Rattle.sb_services.specs.EventKinds.{kind_number}
 use Rattle.sb_services.specs.EventLaws.{CreatesGrantTheirEvent, IsGrantedOn, OpensGrantTheirEvent}
 use Rattle.sb_services.specs.declared.event_rows.EventRow.{EventRow}
 

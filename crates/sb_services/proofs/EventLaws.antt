@@ -8,9 +8,9 @@ use Rattle.std.specs.Map.{lookup}
 use Rattle.sb_names.specs.Laws.{PutsAreFound, PutsKeepRows}
 use Rattle.sb_names.specs.Maps.{is_key, found}
 use Rattle.sb_services.specs.Events.{Events, create_by, on_event, shown}
-use Rattle.sb_services.specs.Kinds.{kind_number}
+use Rattle.sb_services.specs.EventKinds.{kind_number}
 use Rattle.sb_services.specs.EventLaws.{CreatesAreFound, CreatesKeepEvents}
-use Rattle.sb_services.specs.declared.kinds.EventKind.{EventKind}
+use Rattle.sb_services.specs.declared.event_kinds.EventKind.{EventKind}
 use Rattle.sb_services.specs.declared.event_rows.EventRow.{EventRow}
 
 -- what an effect of event.create makes of another name

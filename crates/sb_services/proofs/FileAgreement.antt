@@ -17,10 +17,10 @@ use Rattle.sb_handles.specs.Tables.{Table, is_of, with_handle, without_handle}
 use Rattle.sb_handles.specs.declared.objects.Held.{Held}
 use Rattle.sb_handles.specs.declared.objects.OpenHandle.{OpenHandle}
 use Rattle.sb_handles.specs.declared.objects.Share.{Share}
-use Rattle.sb_services.specs.Creation.{object_asked, on_file, share_of}
+use Rattle.sb_services.specs.FileCreation.{object_asked, on_file, share_of}
 use Rattle.sb_services.specs.Files.{Agrees, Files, object_of, with_attributes}
 use Rattle.sb_services.specs.FileLaws.{CreatesGrantFiles, CreatesKeepFiles, CreatesMakeOne, RefusalsChangeNothing, ClosesKeepFiles, ClosesLeaveFiles, GrantsLeaveFiles}
-use Rattle.sb_services.proofs.CreationCases.{by_create}
+use Rattle.sb_services.proofs.FileCreationCases.{by_create}
 
 abbrev IsPlain : Files → Table → Effect Files → Type 0
 IsPlain files handles effect = (effect.answer.status ≡ success → ⊥) → (effect.service ≡ files) × (effect.handles ≡ handles)

@@ -6,7 +6,7 @@ use Rattle.sb_handles.specs.Effects.{Effect}
 use Rattle.sb_handles.specs.Masks.{access_of, sharing_of}
 use Rattle.sb_handles.specs.Tables.{no_handles, without_handle}
 use Rattle.sb_services.specs.Files.{Files, no_files, started, query, rename, closed}
-use Rattle.sb_services.specs.Creation.{create}
+use Rattle.sb_services.specs.FileCreation.{create}
 use Rattle.sb_services.specs.FileRequests.{create_request, open_request, options_of}
 use Rattle.sb_services.specs.declared.file_requests.Disposition.{Disposition}
 use Rattle.sb_services.specs.declared.file_requests.Disposition.TheVariants as disposition

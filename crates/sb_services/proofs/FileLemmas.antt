@@ -20,7 +20,7 @@ use Rattle.sb_names.specs.Numbers.{AreNumbered, PutsKeepNumbers, RenamesKeepNumb
 use Rattle.sb_names.specs.Renames.{renamed_rows, renamed_tree}
 use Rattle.sb_names.specs.Laws.{PutsKeepParents, RenamesKeepParents}
 use Rattle.sb_names.specs.Trees.{AreFolded, IsTree, directory_object, is_directory_there as is_name_there, has_parent as has_tree_parent, parent_object}
-use Rattle.sb_services.specs.Creation.{on_file, share_of}
+use Rattle.sb_services.specs.FileCreation.{on_file, share_of}
 use Rattle.sb_services.specs.Files.{Files, AreObjects, has_parent, is_directory, is_directory_there, is_directory_by, object_of}
 use Rattle.sb_services.specs.declared.file_objects.FileKind.TheVariants as kind
 use Rattle.sb_services.specs.declared.file_objects.FileObject.{FileObject}

@@ -11,8 +11,8 @@ use Rattle.sb_names.specs.Laws.{PutsAreFound}
 use Rattle.sb_names.specs.Maps.{Rows, found, is_key}
 use Rattle.sb_services.specs.PipeLaws.{CallsAddHandles, CallsGrantTheirPipe, CallsKeepCounts, CallsLeaveOthers, MadePipesAreAsAsked}
 use Rattle.sb_services.specs.Pipes.{Pipes, on_pipe}
-use Rattle.sb_services.specs.declared.modes.PipeForm.{PipeForm}
-use Rattle.sb_services.specs.declared.modes.PipeMode.{PipeMode}
+use Rattle.sb_services.specs.declared.pipe_modes.PipeForm.{PipeForm}
+use Rattle.sb_services.specs.declared.pipe_modes.PipeMode.{PipeMode}
 use Rattle.sb_services.specs.declared.pipe_rows.PipeRow.{PipeRow}
 use Rattle.sb_services.proofs.NamedPipes.{own_key}
 use Rattle.sb_services.proofs.PipeLaws.{by_create}

@@ -8,8 +8,8 @@ use Rattle.std.specs.List.{AllByRecursion, IsDistinct, list_all}
 use Rattle.sb_names.specs.Keys.{key_of}
 use Rattle.sb_names.specs.Maps.{Rows, found, put, replaced}
 use Rattle.sb_services.specs.Pipes.{Pipes, ArePipes, is_made, fewer, with_pipe, with_instance, closed}
-use Rattle.sb_services.specs.declared.modes.PipeForm.{PipeForm}
-use Rattle.sb_services.specs.declared.modes.PipeMode.{PipeMode}
+use Rattle.sb_services.specs.declared.pipe_modes.PipeForm.{PipeForm}
+use Rattle.sb_services.specs.declared.pipe_modes.PipeMode.{PipeMode}
 use Rattle.sb_services.specs.declared.pipe_rows.PipeRow.{PipeRow}
 use Rattle.sb_services.proofs.PipeRowCases.{put_cases, set_cases, fewer_cases}
 

@@ -1,13 +1,14 @@
-pub mod CreationCases
-pub mod CreationLaws
 mod EventCases
 pub mod EventGrants
 pub mod EventLaws
 pub mod EventNumbering
 pub mod FileAgreement
 mod FileCases
+pub mod FileCreationCases
+pub mod FileCreationLaws
 pub mod FileLemmas
 pub mod FileRowLemmas
+pub mod FileSeekLemmas
 pub mod FoundPipes
 pub mod KeptEvents
 pub mod KeptPipes
@@ -25,4 +26,3 @@ pub mod PipeLaws
 pub mod PipeRowCases
 pub mod PipeServiceLemmas
 pub mod RenameLaws
-pub mod SeekLemmas

@@ -6,7 +6,7 @@ use Rattle.std.specs.Prelude.{Option, None, Some, not, ◌||◌}
 use Rattle.std.specs.List.{list_all, slice_get}
 use Rattle.sb_names.specs.Keys.{key_of}
 use Rattle.sb_names.specs.Maps.{Rows, is_key, found, put, replaced}
-use Rattle.sb_services.specs.Keeping.{in_slot, name_at, is_key_of, AreNamed, StandsUnder}
+use Rattle.sb_services.specs.PipeKeeping.{in_slot, name_at, is_key_of, AreNamed, StandsUnder}
 use Rattle.sb_services.specs.Pipes.{fewer, is_made}
 use Rattle.sb_services.specs.declared.pipe_rows.PipeRow.{PipeRow}
 use Rattle.sb_services.proofs.KeptPipes.{all_put, all_replaced, all_fewer, all_with, first_of, others_of, widened}

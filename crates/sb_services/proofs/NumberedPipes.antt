@@ -12,7 +12,7 @@ use Rattle.std.specs.Ordering.{is_eq}
 use Rattle.std.specs.declared.cmp.Ordering.TheVariants.{Less}
 use Rattle.sb_names.specs.Keys.{key_of}
 use Rattle.sb_names.specs.Maps.{Rows, Rises, is_key, found, put, replaced}
-use Rattle.sb_services.specs.Keeping.{AreNamed, AreOfPipes, StandsUnder, in_slot, is_key_of, is_numbered, name_at}
+use Rattle.sb_services.specs.PipeKeeping.{AreNamed, AreOfPipes, StandsUnder, in_slot, is_key_of, is_numbered, name_at}
 use Rattle.sb_services.specs.Pipes.{fewer}
 use Rattle.sb_services.specs.declared.pipe_rows.PipeRow.{PipeRow}
 use Rattle.sb_services.proofs.KeptPipes.{all_fewer, all_with, first_of, others_of}

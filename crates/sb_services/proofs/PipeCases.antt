@@ -4,8 +4,8 @@ use Rattle.sb_call.specs.Statuses.{refusal, granting, success, invalid_parameter
 use Rattle.sb_handles.specs.Effects.{Effect}
 use Rattle.sb_handles.specs.Tables.{no_handles}
 use Rattle.sb_services.specs.Pipes.{Pipes, no_pipes, create, closed}
-use Rattle.sb_services.specs.declared.modes.PipeForm.TheVariants.{Bytes}
-use Rattle.sb_services.specs.declared.modes.PipeMode.TheVariants.{Outbound, Duplex}
+use Rattle.sb_services.specs.declared.pipe_modes.PipeForm.TheVariants.{Bytes}
+use Rattle.sb_services.specs.declared.pipe_modes.PipeMode.TheVariants.{Outbound, Duplex}
 
 abbrev first : Effect Pipes
 first = create no_pipes no_handles 0 (codes "\\p") Duplex Bytes 2

@@ -7,7 +7,7 @@ use Rattle.std.specs.Map.{lookup, remove_entry, set_value}
 use Rattle.sb_names.specs.Keys.{key_of}
 use Rattle.sb_names.specs.Maps.{Rows, Rises, is_key, found, without, replaced}
 use Rattle.sb_names.specs.Laws.{OutIsOut}
-use Rattle.sb_services.specs.Keeping.{StandsUnder, is_numbered}
+use Rattle.sb_services.specs.PipeKeeping.{StandsUnder, is_numbered}
 use Rattle.sb_services.specs.Pipes.{fewer}
 use Rattle.sb_services.specs.declared.pipe_rows.PipeRow.{PipeRow}
 use Rattle.sb_services.proofs.NamedPipes.{own_key}

@@ -10,8 +10,8 @@ use Rattle.sb_handles.specs.declared.objects.Held.{Held}
 use Rattle.sb_names.specs.Maps.{found}
 use Rattle.sb_services.specs.PipeLaws.{RefusalsChangeNothing, CallsGrantPipes, CallsMakeOne, PipesHaveHandles, CallsKeepPipes, ClosesKeepPipes, ClosesLeavePipes, GrantsLeavePipes}
 use Rattle.sb_services.specs.Pipes.{Pipes, ArePipes, Agrees, create, create_by, is_alike, is_invalid, on_pipe, with_instance, with_pipe}
-use Rattle.sb_services.specs.declared.modes.PipeForm.{PipeForm}
-use Rattle.sb_services.specs.declared.modes.PipeMode.{PipeMode}
+use Rattle.sb_services.specs.declared.pipe_modes.PipeForm.{PipeForm}
+use Rattle.sb_services.specs.declared.pipe_modes.PipeMode.{PipeMode}
 use Rattle.sb_services.specs.declared.pipe_rows.PipeRow.{PipeRow}
 use Rattle.sb_services.proofs.PipeCounts.{count_put, count_replaced, count_fewer, there_by_count}
 

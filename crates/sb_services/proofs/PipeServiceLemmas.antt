@@ -6,10 +6,10 @@ use Rattle.std.specs.List.{IsDistinct}
 use Rattle.sb_base.specs.Names.{is_name_of}
 use Rattle.sb_names.specs.Laws.{NamesFold}
 use Rattle.sb_names.specs.Maps.{Rows, found, put, replaced}
-use Rattle.sb_services.specs.Keeping.{IsKept, is_numbered}
+use Rattle.sb_services.specs.PipeKeeping.{IsKept, is_numbered}
 use Rattle.sb_services.specs.Pipes.{ArePipes, fewer}
-use Rattle.sb_services.specs.declared.modes.PipeForm.{PipeForm}
-use Rattle.sb_services.specs.declared.modes.PipeMode.{PipeMode}
+use Rattle.sb_services.specs.declared.pipe_modes.PipeForm.{PipeForm}
+use Rattle.sb_services.specs.declared.pipe_modes.PipeMode.{PipeMode}
 use Rattle.sb_services.specs.declared.pipe_rows.PipeRow.{PipeRow}
 use Rattle.sb_services.proofs.KeptPipes.{all_fewer, all_put, all_replaced, pipes_with_pipe, pipes_with_instance, pipes_closed}
 use Rattle.sb_services.proofs.NamedPipes.{named_with_pipe, named_with_instance, named_fewer}

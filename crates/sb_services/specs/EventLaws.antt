@@ -7,7 +7,7 @@ use Rattle.sb_handles.specs.Tables.{Table, with_handle}
 use Rattle.sb_names.specs.Keys.{key_of}
 use Rattle.sb_names.specs.Maps.{is_key, found}
 use Rattle.sb_services.specs.Events.{Events, create, on_event, open_by_name}
-use Rattle.sb_services.specs.declared.kinds.EventKind.{EventKind}
+use Rattle.sb_services.specs.declared.event_kinds.EventKind.{EventKind}
 use Rattle.sb_services.specs.declared.event_rows.EventRow.{EventRow}
 
 -- a call leaves all as it was

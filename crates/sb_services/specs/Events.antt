@@ -11,8 +11,8 @@ use Rattle.sb_handles.specs.declared.objects.Service.TheVariants as service
 use Rattle.sb_names.specs.Maps.{Rows, Rises, found, is_there, put}
 use Rattle.sb_names.specs.Objects.{IsNameBy}
 use Rattle.sb_names.specs.Numbers.{AreNumbered}
-use Rattle.sb_services.specs.Kinds.{kind_number, state_number}
-use Rattle.sb_services.specs.declared.kinds.EventKind.{EventKind}
+use Rattle.sb_services.specs.EventKinds.{kind_number, state_number}
+use Rattle.sb_services.specs.declared.event_kinds.EventKind.{EventKind}
 use Rattle.sb_services.specs.declared.event_rows.EventRow.{EventRow}
 
 -- the event under each name, and how many were ever made

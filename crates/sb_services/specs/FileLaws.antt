@@ -10,7 +10,7 @@ use Rattle.sb_handles.specs.declared.objects.Held.{Held}
 use Rattle.sb_names.specs.Keys.{key_of, is_below}
 use Rattle.sb_names.specs.Maps.{found, is_key, is_there}
 use Rattle.sb_names.specs.Renames.{renamed_key}
-use Rattle.sb_services.specs.Creation.{create, object_asked, on_file, was_created, was_overwritten, was_superseded}
+use Rattle.sb_services.specs.FileCreation.{create, object_asked, on_file, was_created, was_overwritten, was_superseded}
 use Rattle.sb_services.specs.Files.{Files, AreFiles, AreObjects, Agrees, object_found, rename, closed}
 use Rattle.sb_services.specs.FileRequests.{needs_object}
 use Rattle.sb_services.specs.declared.file_objects.FileObject.{FileObject}

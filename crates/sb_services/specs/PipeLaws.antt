@@ -8,8 +8,8 @@ use Rattle.sb_handles.specs.declared.objects.Held.{Held}
 use Rattle.sb_names.specs.Keys.{key_of}
 use Rattle.sb_names.specs.Maps.{found, is_key}
 use Rattle.sb_services.specs.Pipes.{Pipes, ArePipes, Agrees, create, closed, on_pipe}
-use Rattle.sb_services.specs.declared.modes.PipeForm.{PipeForm}
-use Rattle.sb_services.specs.declared.modes.PipeMode.{PipeMode}
+use Rattle.sb_services.specs.declared.pipe_modes.PipeForm.{PipeForm}
+use Rattle.sb_services.specs.declared.pipe_modes.PipeMode.{PipeMode}
 use Rattle.sb_services.specs.declared.pipe_rows.PipeRow.{PipeRow}
 
 -- a call that answers a status other than success leaves pipes and handles as they are

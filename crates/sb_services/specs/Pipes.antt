@@ -9,9 +9,9 @@ use Rattle.sb_handles.specs.Tables.{Table}
 use Rattle.sb_handles.specs.declared.objects.Held.{Held}
 use Rattle.sb_handles.specs.declared.objects.Service.TheVariants as service
 use Rattle.sb_names.specs.Maps.{Rows, found, put, replaced}
-use Rattle.sb_services.specs.Modes.{form_number, mode_number}
-use Rattle.sb_services.specs.declared.modes.PipeForm.{PipeForm}
-use Rattle.sb_services.specs.declared.modes.PipeMode.{PipeMode}
+use Rattle.sb_services.specs.PipeModes.{form_number, mode_number}
+use Rattle.sb_services.specs.declared.pipe_modes.PipeForm.{PipeForm}
+use Rattle.sb_services.specs.declared.pipe_modes.PipeMode.{PipeMode}
 use Rattle.sb_services.specs.declared.pipe_rows.PipeRow.{PipeRow}
 
 -- the pipe under each name, and how many were ever made

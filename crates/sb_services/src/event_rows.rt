@@ -1,6 +1,6 @@
 // What is kept of an event.
 
-use crate::kinds::EventKind;
+use crate::event_kinds::EventKind;
 
 /// An event.
 #[derive(Clone, Copy)]

@@ -7,11 +7,11 @@ ghost use Rattle.sb_call.specs.Statuses.{granting};
 ghost use Rattle.sb_names.specs.Maps.{found};
 ghost use Rattle.sb_names.specs.Numbers.{is_given};
 ghost use Rattle.sb_names.specs.Objects.{IsNameBy};
-ghost use Rattle.sb_services.specs.Kinds.{kind_number, state_number};
+ghost use Rattle.sb_services.specs.EventKinds.{kind_number, state_number};
 ghost use Rattle.sb_services.specs.Events.{AreEvents, no_events, number_of, on_event, create, create_by, open_by_name, can_start, started, with_event};
 
+use crate::event_kinds::{EventKind, state_number};
 use crate::event_rows::EventRow;
-use crate::kinds::{EventKind, state_number};
 use bitflags::Flags;
 use sb_base::{NoMemory, Wide};
 use sb_call::{Answer, NAME_EXISTS, NAME_NOT_FOUND, SUCCESS, TYPE_MISMATCH};

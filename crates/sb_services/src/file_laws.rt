@@ -19,7 +19,7 @@ pub fn creates_grant_files()
 {}
 
 /// The file or directory found under a name is the one that was made there, whatever file.create or file.open came after.
-#[tactic(auto, using(crate::proofs::CreationLaws::creates_are_found, crate::proofs::CreationLaws::opens_leave_names))]
+#[tactic(auto, using(crate::proofs::FileCreationLaws::creates_are_found, crate::proofs::FileCreationLaws::opens_leave_names))]
 pub fn files_are_found_where_made()
     ensures creates { CreatesAreFound }
     ensures opens { OpensLeaveNames }
@@ -29,7 +29,7 @@ pub fn files_are_found_where_made()
 
 /// What is found under the name of a file.create that made it is what was asked for; after one that replaced its attributes
 /// it has those that were asked for; any other file.create leaves it as it was, and each leaves all other names.
-#[tactic(auto, using(crate::proofs::CreationLaws::creates_give_attributes, crate::proofs::CreationLaws::creates_leave_others))]
+#[tactic(auto, using(crate::proofs::FileCreationLaws::creates_give_attributes, crate::proofs::FileCreationLaws::creates_leave_others))]
 pub fn creates_give_attributes()
     ensures own { CreatesGiveAttributes }
     ensures others { CreatesLeaveOthers }
@@ -38,7 +38,7 @@ pub fn creates_give_attributes()
 }
 
 /// Files and directories stay under their names after each file.create.
-#[tactic(auto, using(crate::proofs::CreationLaws::creates_keep_names))]
+#[tactic(auto, using(crate::proofs::FileCreationLaws::creates_keep_names))]
 pub fn files_stay()
     ensures { CreatesKeepNames }
 {
@@ -46,7 +46,7 @@ pub fn files_stay()
 }
 
 /// A file.create that succeeds grants its handle on what is found under the name, with the access and sharing asked for.
-#[tactic(auto, using(crate::proofs::CreationLaws::creates_grant_their_file))]
+#[tactic(auto, using(crate::proofs::FileCreationLaws::creates_grant_their_file))]
 pub fn creates_grant_their_file()
     ensures { CreatesGrantTheirFile }
 {

@@ -7,7 +7,7 @@ ghost use Rattle.sb_names.specs.Maps.{found, put};
 ghost use Rattle.sb_names.specs.Keys.{key_of, parent_of};
 ghost use Rattle.sb_names.specs.Nodes.{IsAt, number_of, rows_of};
 ghost use Rattle.sb_names.specs.Objects.{IsNameOf};
-ghost use Rattle.sb_services.specs.Seeks.{IsSought, admits};
+ghost use Rattle.sb_services.specs.FileSeeks.{IsSought, admits};
 ghost use Rattle.sb_services.specs.Files.{AreFiles, no_files, object_at, query, rename, can_start, started, closed};
 
 use crate::file_objects::{FileKind, FileObject};
@@ -120,7 +120,7 @@ fn admits(objects: &[FileObject], parent: Option<u64>) -> bool
 }
 
 // Where the path of a name leads; it leads nowhere through a file.
-#[tactic(auto, using(crate::proofs::SeekLemmas::parent_gone, crate::proofs::SeekLemmas::parent_admits))]
+#[tactic(auto, using(crate::proofs::FileSeekLemmas::parent_gone, crate::proofs::FileSeekLemmas::parent_admits))]
 pub(crate) fn seek_in(names: &NameTree, objects: &[FileObject], name: &[u16]) -> Seek
     requires { is_name_of name.now ≡ true }
     ensures { IsSought names.now.nodes objects.now name.now result }

@@ -4,22 +4,23 @@
 // NtOpenEvent, NtCreateKey, NtOpenKey and CreateNamedPipe in their documentation.
 #![tactic(auto)]
 
-mod creation;
+mod event_kinds;
 mod event_laws;
 mod event_rows;
 mod events;
+mod file_creation;
 mod file_laws;
 mod file_objects;
 mod file_requests;
 mod files;
 mod key_laws;
-mod kinds;
-mod modes;
 mod pipe_laws;
+mod pipe_modes;
 mod pipe_rows;
 mod pipes;
 mod registry;
 
+pub use event_kinds::EventKind;
 pub use event_laws::{
     calls_grant_their_event, events_are_found_where_made, events_stay,
     refused_event_calls_change_nothing,
@@ -37,12 +38,11 @@ pub use key_laws::{
     calls_grant_their_key, keys_are_found_where_made, keys_stand_below_keys, keys_stay,
     refused_key_calls_change_nothing,
 };
-pub use kinds::EventKind;
-pub use modes::{PipeForm, PipeMode};
 pub use pipe_laws::{
     calls_grant_pipes, calls_grant_their_pipe, pipe_agreement_is_kept, pipes_are_found_where_made,
     pipes_come_with_handles, pipes_have_handles, refused_pipe_calls_change_nothing,
 };
+pub use pipe_modes::{PipeForm, PipeMode};
 pub use pipe_rows::PipeRow;
 pub use pipes::PipeService;
 pub use registry::KeyService;

@@ -1,6 +1,6 @@
 // A pipe, apart from its name.
 
-use crate::modes::{PipeForm, PipeMode};
+use crate::pipe_modes::{PipeForm, PipeMode};
 
 /// A pipe.
 #[derive(Clone, Copy)]

@@ -5,10 +5,10 @@ ghost use Rattle.sb_call.specs.Statuses.{success};
 ghost use Rattle.sb_handles.specs.Effects.{IsDone};
 ghost use Rattle.sb_handles.specs.Tables.{with_handle};
 ghost use Rattle.sb_names.specs.Maps.{found};
-ghost use Rattle.sb_services.specs.Keeping.{AreNames, is_numbered, name_at, StandsUnder};
+ghost use Rattle.sb_services.specs.PipeKeeping.{AreNames, is_numbered, name_at, StandsUnder};
 ghost use Rattle.sb_services.specs.Pipes.{Agrees, ArePipes, no_pipes, on_pipe, is_invalid, is_alike, create, fewer, closed, with_pipe, with_instance};
 
-use crate::modes::{PipeForm, PipeMode};
+use crate::pipe_modes::{PipeForm, PipeMode};
 use crate::pipe_rows::PipeRow;
 use bitflags::Flags;
 use sb_base::{NoMemory, Wide};
@@ -36,7 +36,7 @@ impl Drop for PipeService {
 
 impl Model for PipeService {
     ghost use Rattle.std.specs.Prelude.{length};
-    ghost use Rattle.sb_services.specs.Keeping.{IsKept};
+    ghost use Rattle.sb_services.specs.PipeKeeping.{IsKept};
     ghost use Rattle.sb_services.specs.Pipes.{Pipes};
 
     ghost Value = { Pipes };

@@ -1,7 +1,7 @@
 use Rattle.std.proofs.Common.{rules, ◌≡◌, true, false, Some, subst, sym, ◌∙◌, ap, arith, nat_le, not}
 use Rattle.std.proofs.lemmas.Bool.Decides.{nat_tests}
 use Rattle.sb_names.specs.Maps.{found}
-use Rattle.sb_services.specs.Keeping.{is_numbered}
+use Rattle.sb_services.specs.PipeKeeping.{is_numbered}
 use Rattle.sb_services.proofs.PipeDrops.{dropped_last, gone_with_last, own_number}
 use Rattle.sb_services.proofs.pipes.drop_handle.Goals as goal
 

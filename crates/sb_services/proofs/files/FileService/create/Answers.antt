@@ -3,7 +3,7 @@ use Rattle.std.proofs.lemmas.List.{length-append}
 use Rattle.std.specs.Prelude.{is_some}
 use Rattle.sb_names.specs.Maps.{put}
 use Rattle.sb_names.specs.Nodes.{rows_of}
-use Rattle.sb_services.specs.Creation.{object_asked, on_file}
+use Rattle.sb_services.specs.FileCreation.{object_asked, on_file}
 use Rattle.sb_services.specs.Files.{Files, has_parent}
 use Rattle.sb_services.proofs.FileLemmas.{files_opened_by, files_with_object, found_made}
 use Rattle.sb_services.proofs.files.FileService.create.Goals as goal

@@ -1,6 +1,6 @@
 use Rattle.std.specs.Prelude.{is_some}
 use Rattle.std.proofs.Common.{rules, ◌≡◌, ◌∙◌, sym, ap, Some, None, true, false, length}
-use Rattle.sb_services.specs.Keeping.{is_numbered, name_at}
+use Rattle.sb_services.specs.PipeKeeping.{is_numbered, name_at}
 use Rattle.sb_services.specs.Pipes.{Pipes, closed, fewer}
 use Rattle.sb_services.proofs.NamedPipes.{kept_low, stands_under, no_name}
 use Rattle.sb_services.proofs.PipeServiceLemmas.{kept_fewer, kept_gone}

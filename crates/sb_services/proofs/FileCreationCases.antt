@@ -5,7 +5,7 @@ use Rattle.sb_call.specs.Statuses.{success, path_not_found, name_not_found, name
 use Rattle.sb_handles.specs.Effects.{Effect, refused}
 use Rattle.sb_handles.specs.Tables.{Table}
 use Rattle.sb_names.specs.Maps.{found}
-use Rattle.sb_services.specs.Creation.{create, create_by, object_asked, open_by, opens, replaced_as, was_created, was_opened, was_overwritten, was_superseded}
+use Rattle.sb_services.specs.FileCreation.{create, create_by, object_asked, open_by, opens, replaced_as, was_created, was_opened, was_overwritten, was_superseded}
 use Rattle.sb_services.specs.Files.{Files, has_parent, is_directory, is_shared_out, object_of, with_attributes, with_object}
 use Rattle.sb_services.specs.FileRequests.{needs_free_name, needs_object, replaces, wants_directory, wants_file}
 use Rattle.sb_services.specs.declared.file_requests.Disposition.{Disposition}

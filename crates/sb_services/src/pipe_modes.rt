@@ -1,6 +1,6 @@
 // What a pipe is made with.
 ghost use Rattle.std.specs.Prelude.{◌≡◌};
-ghost use Rattle.sb_services.specs.Modes.{mode_of, mode_number, form_of, form_number};
+ghost use Rattle.sb_services.specs.PipeModes.{mode_of, mode_number, form_of, form_number};
 
 /// In which direction data go through a pipe (`PIPE_ACCESS_*`).
 #[derive(Clone, Copy)]

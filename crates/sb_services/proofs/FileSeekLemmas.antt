@@ -3,7 +3,7 @@ use Rattle.std.proofs.Common.{◌≡◌, ℕ, false, sym, List}
 use Rattle.std.specs.Prelude.{Option, None, Some}
 use Rattle.sb_names.specs.Nodes.{Nodes, rows_of}
 use Rattle.sb_names.specs.Trees.{parent_object}
-use Rattle.sb_services.specs.Seeks.{ParentIs, admits}
+use Rattle.sb_services.specs.FileSeeks.{ParentIs, admits}
 use Rattle.sb_services.specs.declared.file_objects.FileObject.{FileObject}
 use Rattle.sb_services.proofs.FileLemmas.{parent_is_gone, parent_is_object, parent_is_root}
 

@@ -1,6 +1,6 @@
 // What an event is made with.
 ghost use Rattle.std.specs.Prelude.{◌≡◌};
-ghost use Rattle.sb_services.specs.Kinds.{kind_from, kind_number, state_number};
+ghost use Rattle.sb_services.specs.EventKinds.{kind_from, kind_number, state_number};
 
 /// What becomes of a signaled event once a thread that waited for it goes on (`EVENT_TYPE`).
 #[derive(Clone, Copy)]

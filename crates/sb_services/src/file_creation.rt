@@ -10,7 +10,7 @@ ghost use Rattle.sb_names.specs.Keys.{key_of, parent_of};
 ghost use Rattle.sb_names.specs.Maps.{found, put};
 ghost use Rattle.sb_names.specs.Nodes.{IsAt, number_of, rows_of};
 ghost use Rattle.sb_services.specs.Files.{Agrees};
-ghost use Rattle.sb_services.specs.Creation.{create, create_by, object_asked, on_file, replaced_as, share_of};
+ghost use Rattle.sb_services.specs.FileCreation.{create, create_by, object_asked, on_file, replaced_as, share_of};
 
 use crate::file_objects::{FileKind, FileObject};
 use crate::file_requests::{Disposition, FileRequest};

@@ -1,9 +1,9 @@
 -- What a pipe is made with, and its numbers.
 use Rattle.std.specs.Prelude.{ℕ, ◌==◌, Option, None, Some, if◌then◌else◌}
-use Rattle.sb_services.specs.declared.modes.PipeMode.{PipeMode}
-use Rattle.sb_services.specs.declared.modes.PipeMode.TheVariants.{Inbound, Outbound, Duplex}
-use Rattle.sb_services.specs.declared.modes.PipeForm.{PipeForm}
-use Rattle.sb_services.specs.declared.modes.PipeForm.TheVariants.{Bytes, Messages}
+use Rattle.sb_services.specs.declared.pipe_modes.PipeMode.{PipeMode}
+use Rattle.sb_services.specs.declared.pipe_modes.PipeMode.TheVariants.{Inbound, Outbound, Duplex}
+use Rattle.sb_services.specs.declared.pipe_modes.PipeForm.{PipeForm}
+use Rattle.sb_services.specs.declared.pipe_modes.PipeForm.TheVariants.{Bytes, Messages}
 
 -- the modes have the numbers 1 to 3
 abbrev pub mode_of : ℕ → Option PipeMode

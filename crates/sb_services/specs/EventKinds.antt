@@ -1,7 +1,7 @@
 -- What an event is made with, and its numbers.
 use Rattle.std.specs.Prelude.{ℕ, Bool, ◌||◌, not, ◌==◌, nat_lt, if◌then◌else◌}
-use Rattle.sb_services.specs.declared.kinds.EventKind.{EventKind}
-use Rattle.sb_services.specs.declared.kinds.EventKind.TheVariants.{Notification, Synchronization}
+use Rattle.sb_services.specs.declared.event_kinds.EventKind.{EventKind}
+use Rattle.sb_services.specs.declared.event_kinds.EventKind.TheVariants.{Notification, Synchronization}
 
 -- 0 is a notification event, any other number a synchronization event
 abbrev pub kind_from : ℕ → EventKind

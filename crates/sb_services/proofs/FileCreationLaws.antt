@@ -14,13 +14,13 @@ use Rattle.sb_handles.specs.Tables.{with_handle}
 use Rattle.sb_names.specs.Keys.{key_of}
 use Rattle.sb_names.specs.Laws.{PutsAreFound, PutsKeepRows}
 use Rattle.sb_names.specs.Maps.{Rows, found, is_key}
-use Rattle.sb_services.specs.Creation.{create_by, object_asked, on_file, open_by, opens, replaced_as, was_opened}
+use Rattle.sb_services.specs.FileCreation.{create_by, object_asked, on_file, open_by, opens, replaced_as, was_opened}
 use Rattle.sb_services.specs.Files.{Files, has_parent, is_directory, is_shared_out, object_found, object_of, with_attributes, with_object}
 use Rattle.sb_services.specs.FileLaws.{CreatesAreFound, CreatesGiveAttributes, CreatesGrantTheirFile, CreatesKeepNames, CreatesLeaveOthers, OpensLeaveNames, says_made, says_replaced, with_asked}
 use Rattle.sb_services.specs.FileRequests.{needs_free_name, replaces, wants_directory, wants_file}
 use Rattle.sb_services.specs.declared.file_objects.FileKind.TheVariants as kind
 use Rattle.sb_services.specs.declared.file_objects.FileObject.{FileObject}
-use Rattle.sb_services.proofs.CreationCases.{by_create}
+use Rattle.sb_services.proofs.FileCreationCases.{by_create}
 use Rattle.sb_services.proofs.FileLemmas.{found_made}
 use Rattle.sb_services.proofs.RenameLaws.{chosen}
 
