@@ -136,7 +136,7 @@ fn content<F: Read + Drop>(
     ensures too_long { IsErrOf result FileFault.TooLong → IfSome (F.remaining file) (λ all. most < length all) }
 {
     let mut file = file;
-    let mut room = [0; PIECE];
+    let mut room = [0; READ_PIECE];
     let mut bytes = with_room(alloc, expected);
     for _ in 0..u64::MAX {
         let may_have_more = append_read(&mut file, &mut room, &mut bytes)?;
@@ -169,8 +169,11 @@ fn read_fault(kind: ErrorKind) -> FileFault
     }
 }
 
-/// How many bytes a piece has in which a file is read, and a file or a pipe written.
+/// How many bytes a piece has in which a file or a pipe is written.
 pub const PIECE: usize = 65_536;
+
+// How many bytes a piece has in which a file is read. The room for it is filled with zeros first.
+const READ_PIECE: usize = 16_384;
 
 /// A writer as an output, which holds back less than a piece.
 #[derive(Drop)]
