@@ -175,7 +175,7 @@ pub fn transcript_lines(
     let mut lengths = Vec::new(alloc);
     // If there is no memory for all at once the buffers grow as lines are put.
     let _bytes = bytes.reserve(count.saturating_mul(LINE_BYTES));
-    let _lengths = lengths.reserve(count);
+    let _lengths = lengths.reserve(count.saturating_add(1));
     put_entry_lines(&mut bytes, &mut lengths, script, &report.entries)?;
     put_result_lines(&mut bytes, &mut lengths, script, report.results.as_slice())?;
     let last = totals(alloc, report)?;
