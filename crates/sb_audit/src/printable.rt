@@ -1,6 +1,8 @@
 // The numbers of a report are in the ranges of their types. These functions read them, and change nothing.
 ghost use Rattle.std.specs.Prelude.{◌≡◌, ◌<◌, ◌^◌, ℕ, true, slice_get, Some};
 ghost use Rattle.std.specs.List.{list_all};
+ghost use Rattle.sb_book.specs.Rulings.{decision_with};
+ghost use Rattle.sb_book.specs.StoredArgs.{arg_seen};
 ghost use Rattle.sb_book.specs.declared.entries.Entry.{Entry};
 ghost use Rattle.sb_core.specs.Results.{result_at};
 ghost use Rattle.sb_base.specs.Wide.{is_unit};
@@ -11,8 +13,11 @@ ghost use Rattle.sb_statements.specs.declared.results.StmtResult.{StmtResult};
 ghost use Rattle.sb_audit.specs.Converse.{ArePrintableResults, Each, IsPrintable, IsPrintableEntry, IsPrintableResult};
 
 use sb_block::BlockFault;
-use sb_book::{Decision, EntrySlice, EntryView, Report, TargetResults, ThreadResults};
-use sb_call::{Arg, CallTag, Reply};
+use sb_book::{
+    EntryParts, EntrySlice, EntryView, Report, Ruling, StoredArg, StoredArgs, TargetResults,
+    ThreadResults,
+};
+use sb_call::{CallTag, Reply};
 use sb_rule::{Action, Verdict};
 use sb_statements::{CallResult, StmtResult};
 
@@ -24,24 +29,24 @@ fn establish_words(words: &[u64])
     ensures { list_all is_word64 words.now ≡ true }
 {}
 
-fn establish_argument(arg: &Arg)
-    ensures { is_argument arg.now ≡ true }
+fn establish_argument(arg: StoredArg<'_>)
+    ensures { is_argument (arg_seen arg.entry) ≡ true }
 {
     match arg {
-        Arg::Num(number) => {
-            let _number = *number;
+        StoredArg::Num(number) => {
+            let _number = number;
         }
-        Arg::Str(text) => establish_units(text.as_units()),
+        StoredArg::Str(units) => establish_units(units),
     }
 }
 
-fn establish_arguments(args: &[Arg])
-    ensures { list_all is_argument args.now ≡ true }
+fn establish_arguments(args: StoredArgs<'_>)
+    ensures { list_all is_argument args.entry ≡ true }
 {
-    let mut args = args;
-    while let Some((arg, later)) = args.split_first() {
+    let mut rest = args;
+    while let Some((arg, later)) = rest.split_first() {
         establish_argument(arg);
-        args = later;
+        rest = later;
     }
 }
 
@@ -90,23 +95,22 @@ fn establish_verdict(tag: CallTag, verdict: Verdict)
     }
 }
 
-fn establish_decision(decision: &Decision)
-    ensures { DecisionInRange (shown_decision decision.now) }
+fn establish_decision(ruling: Ruling, args: StoredArgs<'_>)
+    ensures { DecisionInRange (shown_decision (decision_with ruling args.entry)) }
 {
-    match decision {
-        Decision::Refused(fault) => establish_fault(*fault),
-        Decision::Denied { tag, verdict } => establish_verdict(*tag, *verdict),
-        Decision::Faked { tag: _, line } => {
-            let _line = *line;
+    match ruling {
+        Ruling::Refused(fault) => establish_fault(fault),
+        Ruling::Denied { tag, verdict } => establish_verdict(tag, verdict),
+        Ruling::Faked { tag: _, line } => {
+            let _line = line;
         }
-        Decision::Performed {
+        Ruling::Performed {
             tag: _,
             line,
             action,
-            args,
         } => {
-            let _line = *line;
-            establish_arguments(args.as_slice());
+            let _line = line;
+            establish_arguments(args);
             match action {
                 Action::ReadOnly => {}
                 Action::Allow => {}
@@ -171,9 +175,10 @@ fn establish_result(of_statement: &StmtResult)
 fn establish_entry(entry: &EntryView<'_>)
     ensures { IsPrintableEntry entry.now }
 {
-    let _mark = entry.mark();
-    establish_decision(entry.decision());
-    establish_reply(&entry.reply());
+    let EntryParts { mark, reply, args } = entry.parts();
+    let _mark = mark;
+    establish_decision(entry.ruling(), args);
+    establish_reply(&reply);
 }
 
 fn establish_entries(entries: EntrySlice<'_>)

@@ -1,3 +1,4 @@
+pub mod ArgsBack
 pub mod Fitting
 pub mod HistoryLaws
 pub mod Legal

@@ -133,7 +133,7 @@ all_back (n ∷ ns) rest =
 
 -- ---- what is read stays when bytes are appended
 
-number_stays : (xs ys : List ℕ) → has_number xs ≡ true → number_in (xs ++ ys) ≡ number_in xs
+pub number_stays : (xs ys : List ℕ) → has_number xs ≡ true → number_in (xs ++ ys) ≡ number_in xs
 number_stays [] ys h = absurd (false≢true h)
 number_stays (b ∷ bs) ys h = by_byte (nat_lt b 128) refl h (number_stays bs ys)
   where
@@ -142,7 +142,7 @@ number_stays (b ∷ bs) ys h = by_byte (nat_lt b 128) refl h (number_stays bs ys
     by_byte true e has more = rw e refl
     by_byte false e has more = rw e (ap (λ high. with_low high (b - 128)) (more (rw e at has)))
 
-after_stays : (xs ys : List ℕ) → has_number xs ≡ true → after_number (xs ++ ys) ≡ after_number xs ++ ys
+pub after_stays : (xs ys : List ℕ) → has_number xs ≡ true → after_number (xs ++ ys) ≡ after_number xs ++ ys
 after_stays [] ys h = absurd (false≢true h)
 after_stays (b ∷ bs) ys h = by_byte (nat_lt b 128) refl h (after_stays bs ys)
   where
@@ -151,7 +151,7 @@ after_stays (b ∷ bs) ys h = by_byte (nat_lt b 128) refl h (after_stays bs ys)
     by_byte true e has more = rw e refl
     by_byte false e has more = rw e (more (rw e at has))
 
-has_stays : (xs ys : List ℕ) → has_number xs ≡ true → has_number (xs ++ ys) ≡ true
+pub has_stays : (xs ys : List ℕ) → has_number xs ≡ true → has_number (xs ++ ys) ≡ true
 has_stays [] ys h = absurd (false≢true h)
 has_stays (b ∷ bs) ys h = by_byte (nat_lt b 128) refl h (has_stays bs ys)
   where

@@ -7,5 +7,7 @@ pub mod Readiness
 pub mod ReadyScripts
 pub mod Replies
 pub mod Reports
+pub mod Rulings
+pub mod StoredArgs
 pub mod Stores
 pub mod Targets

@@ -1,10 +1,13 @@
--- Entries as they are stored: a row for each, and one buffer with the numbers of all copies and replies as bytes, in which each row has a
--- beginning.
-use Rattle.std.specs.Prelude.{◌≡◌, ℕ, ◌+◌, ◌≤◌, Bool, true, ◌&&◌, nat_lt, nat_le, List, [], ◌∷◌, length, drop}
+-- Entries as they are stored: a row for each, one buffer with the numbers of all copies, replies and arguments as bytes, and one with the units
+-- of all strings. A row has a beginning in both.
+use Rattle.std.specs.Prelude.{◌≡◌, ℕ, ◌+◌, ◌*◌, ◌≤◌, Bool, true, ◌&&◌, nat_lt, nat_le, List, [], ◌∷◌, length, drop}
+use Rattle.sb_call.specs.declared.arguments.Arg.{Arg}
 use Rattle.sb_call.specs.declared.replies.Reply.{Reply}
-use Rattle.sb_block.specs.Copies.{Copied, copied, is_copy}
+use Rattle.sb_block.specs.Copies.{Copied, copied, is_copy, mark_of}
 use Rattle.sb_block.specs.Layout.{most_words}
 use Rattle.sb_book.specs.Packing.{after_number, after_numbers, has_numbers, number_in, numbers_in}
+use Rattle.sb_book.specs.Rulings.{decision_with}
+use Rattle.sb_book.specs.StoredArgs.{after_args, arg_units, args_at, has_args}
 use Rattle.sb_book.specs.declared.decisions.Decision.{Decision}
 use Rattle.sb_book.specs.declared.entries.Entry.{Entry}
 use Rattle.sb_book.specs.declared.stores.EntryRow.{EntryRow}
@@ -36,12 +39,15 @@ after_handle bytes = after_number (after_status bytes)
 abbrev pub head_of : Copied → Reply → List ℕ
 head_of taken reply = taken.count_seen ∷ taken.end_seen ∷ reply.mark ∷ reply.outcome ∷ reply.status ∷ reply.handle ∷ []
 
--- then the extended words of the reply, and the words of the copy
+-- then the extended words of the reply, the arguments, and the words of the copy
 abbrev pub ext_in : EntryRow → List ℕ → List ℕ
 ext_in r bytes = numbers_in r.ext_len (after_handle bytes)
 
+abbrev pub after_ext : EntryRow → List ℕ → List ℕ
+after_ext r bytes = after_numbers r.ext_len (after_handle bytes)
+
 abbrev pub words_in : EntryRow → List ℕ → List ℕ
-words_in r bytes = numbers_in r.len (after_numbers r.ext_len (after_handle bytes))
+words_in r bytes = numbers_in r.len (after_args (after_ext r bytes))
 
 -- the copy that begins there
 abbrev pub copy_in : EntryRow → List ℕ → Copied
@@ -57,36 +63,52 @@ reply_in r bytes = record {
   ext = ext_in r bytes;
 }
 
--- the entry of a row whose bytes begin there
-abbrev pub row_entry : EntryRow → List ℕ → Entry
-row_entry r bytes = entry_with r.target r.channel (copy_in r bytes) r.decision (reply_in r bytes)
+-- the entry of a row whose bytes and units begin there
+abbrev pub row_entry : EntryRow → List ℕ → List ℕ → Entry
+row_entry r bytes units =
+    entry_with r.target r.channel (copy_in r bytes) (decision_with r.ruling (args_at (after_ext r bytes) units)) (reply_in r bytes)
 
 -- the entry of a row
-abbrev pub stored_entry : List ℕ → EntryRow → Entry
-stored_entry bytes r = row_entry r (drop r.first bytes)
+abbrev pub stored_entry : List ℕ → List ℕ → EntryRow → Entry
+stored_entry bytes units r = row_entry r (drop r.first bytes) (drop r.first_unit units)
 
--- an entry has at most the words of a copy, the extended words of a reply, and six numbers more, of at most ten bytes each
+-- an entry has at most the words of a copy, the extended words of a reply, and seven numbers more, of at most ten bytes each, and its arguments
 abbrev pub most_ext_words : ℕ
 most_ext_words = 7
 
 abbrev pub most_entry_bytes : ℕ
-most_entry_bytes = 770
+most_entry_bytes = 780
 
--- all numbers of a row are there, its copy keeps the rule of copies, and its reply has at most seven extended words
-pub record IsCut (bytes : List ℕ) (r : EntryRow) : Type 0 where
+-- all numbers of a row are there, its copy keeps the rule of copies, its reply has at most seven extended words, and the reply's mark is that of the
+-- copy if the row says so
+pub record IsCut (bytes units : List ℕ) (r : EntryRow) : Type 0 where
   pub within : r.first ≤ length bytes
+  pub units_within : r.first_unit ≤ length units
   pub most : r.len ≤ most_words
   pub few : r.ext_len ≤ most_ext_words
   pub head : has_numbers 6 (drop r.first bytes) ≡ true
   pub ext : has_numbers r.ext_len (after_handle (drop r.first bytes)) ≡ true
-  pub words : has_numbers r.len (after_numbers r.ext_len (after_handle (drop r.first bytes))) ≡ true
+  pub args : has_args (after_ext r (drop r.first bytes)) (drop r.first_unit units) ≡ true
+  pub words : has_numbers r.len (after_args (after_ext r (drop r.first bytes))) ≡ true
   pub rule : is_copy (copy_in r (drop r.first bytes)) ≡ true
+  pub mark : r.own_mark ≡ true → mark_of (copy_in r (drop r.first bytes)) ≡ (reply_in r (drop r.first bytes)).mark
 
--- rows and bytes of these lengths have room for one entry more
-abbrev pub is_room : ℕ → ℕ → ℕ → ℕ → Bool
-is_room rows rows_capacity bytes bytes_capacity = nat_lt rows rows_capacity && nat_le (bytes + most_entry_bytes) bytes_capacity
+-- how many rows, bytes and units there are, and for how many there is room
+pub record Room : Type 0 where
+  pub rows : ℕ
+  pub rows_capacity : ℕ
+  pub bytes : ℕ
+  pub bytes_capacity : ℕ
+  pub units : ℕ
+  pub units_capacity : ℕ
 
--- stored entries, and whether there is room for one more
+-- there is room for one entry more, with these arguments
+abbrev pub is_room : List Arg → Room → Bool
+is_room args room =
+    nat_lt room.rows room.rows_capacity
+    && (nat_le (room.bytes + (most_entry_bytes + 20 * length args)) room.bytes_capacity && nat_le (room.units + length (arg_units args)) room.units_capacity)
+
+-- stored entries, and the room beside them
 pub record StoreAt : Type 0 where
   pub entries : List Entry
-  pub room : Bool
+  pub room : Room

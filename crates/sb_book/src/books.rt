@@ -140,10 +140,10 @@ impl Book {
     {
         faultless_copies_fit();
         establish_whole(taken);
-        self.store.reserve()?;
+        self.store.reserve(decision.args())?;
         let reply = carry_out(&mut self.kernel, target, taken.mark(), &decision)?;
         self.store
-            .push_reserved(target, channel, taken, decision, &reply);
+            .push_reserved(target, channel, taken, &decision, &reply);
         Ok(reply)
     }
 

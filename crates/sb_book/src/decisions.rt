@@ -12,7 +12,6 @@ use sb_rule::{Action, Judge, READ_ONLY_BITS, Verdict};
 use std::alloc::Global;
 
 /// What the broker decides of the copy of a parameter block.
-#[derive(PartialEq)]
 pub enum Decision {
     /// The block has a fault, the first of the copy.
     Refused(BlockFault),

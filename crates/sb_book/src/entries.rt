@@ -1,5 +1,7 @@
 // The entries of the history.
 ghost use Rattle.std.specs.Prelude.{◌≡◌, ◌<◌, ◌^◌, ◌++◌, ◌∷◌, [], true, length, OnOk, OnErr};
+ghost use Rattle.sb_book.specs.Rulings.{args_of};
+ghost use Rattle.sb_book.specs.Stores.{is_room};
 
 use crate::decisions::Decision;
 use crate::slices::EntrySlice;
@@ -39,7 +41,7 @@ impl Drop for Entry {
 impl Entry {
     // Appends the entry to a store that has room for it.
     fn put_into(self, store: &mut EntryStore)
-        requires room { store.old.room ≡ true }
+        requires room { is_room (args_of self.decision) store.old.room ≡ true }
         ensures entries { store.new.entries ≡ store.old.entries ++ self ∷ [] }
     {
         let Entry {
@@ -49,12 +51,12 @@ impl Entry {
             decision,
             reply,
         } = self;
-        store.push_reserved(target, channel, &taken, decision, &reply);
+        store.push_reserved(target, channel, &taken, &decision, &reply);
     }
 }
 
-/// Entries, in the order in which they were answered. An entry needs memory for what its copy and its reply have, and not for the most
-/// that they may have. Contracts see the list of the entries.
+/// Entries, in the order in which they were answered. An entry needs memory for what its copy, its reply and its arguments have, and not for
+/// the most that they may have. Contracts see the list of the entries.
 pub struct Entries {
     store: EntryStore,
 }
@@ -114,7 +116,7 @@ impl Entries {
         ensures ok { OnOk result (self.new ≡ self.old ++ entry ∷ []) }
         ensures err { OnErr result (self.new ≡ self.old) }
     {
-        self.store.reserve()?;
+        self.store.reserve(entry.decision.args())?;
         entry.put_into(&mut self.store);
         Ok(())
     }

@@ -11,8 +11,10 @@ mod packing;
 mod ready_scripts;
 mod replies;
 mod reports;
+mod rulings;
 mod run_starts;
 mod slices;
+mod stored_args;
 mod stores;
 mod views;
 
@@ -26,6 +28,8 @@ pub use laws::{
 pub use ready_scripts::{OpenedScript, ReadyScript};
 pub use replies::{DENIED_OUTCOME, FAKED_OUTCOME, PERFORMED_OUTCOME, REFUSED_OUTCOME, fault_words};
 pub use reports::{AllWords, Report, Results, TargetResults, ThreadResults, WordList};
+pub use rulings::Ruling;
 pub use run_starts::RunStart;
 pub use slices::EntrySlice;
-pub use views::EntryView;
+pub use stored_args::{StoredArg, StoredArgs};
+pub use views::{EntryParts, EntryView};

@@ -1,7 +1,7 @@
 // Numbers as bytes: seven bits a byte, the lowest first, and each byte of a number but its last has the high bit set (LEB128).
-ghost use Rattle.std.specs.Prelude.{◌≡◌, ◌≤◌, ◌+◌, ◌*◌, ◌++◌, length, true, vec_len, vec_capacity};
+ghost use Rattle.std.specs.Prelude.{◌≡◌, ◌≤◌, ◌+◌, ◌*◌, ◌++◌, ◌∷◌, [], length, true, vec_len, vec_capacity};
 ghost use Rattle.std.specs.List.{list_all};
-ghost use Rattle.sb_book.specs.Packing.{after_number, after_numbers, number_in, numbers_in, packed, packed_all};
+ghost use Rattle.sb_book.specs.Packing.{after_number, after_numbers, number_in, numbers_in, packed, packed_all, with_low};
 ghost use Rattle.sb_base.specs.Numbers.{is_word64};
 
 use arrayvec::ArrayVec;
@@ -38,7 +38,15 @@ pub(crate) fn put_numbers(bytes: &mut Vec<u8>, numbers: &[u64])
     }
 }
 
+// The number whose lowest seven bits are these, if its others are known.
+fn with_low(high: u64, low: u64) -> u64
+    ensures { result ≡ with_low high low }
+{
+    high.saturating_mul(128).saturating_add(low)
+}
+
 /// The number at the front of bytes, and the bytes after it. Most numbers have one byte.
+#[inline(always)]
 pub(crate) fn take_number(bytes: &[u8]) -> (u64, &[u8])
     ensures number { result.0 ≡ number_in bytes.now }
     ensures rest { result.1.now ≡ after_number bytes.now }
@@ -46,6 +54,25 @@ pub(crate) fn take_number(bytes: &[u8]) -> (u64, &[u8])
     if let Some((byte, rest)) = bytes.split_first() {
         if *byte < 128 {
             return (u64::from(*byte), rest);
+        }
+    }
+    take_longer_number(bytes)
+}
+
+// The same of a number that may have more: most of these have two or three.
+fn take_longer_number(bytes: &[u8]) -> (u64, &[u8])
+    ensures number { result.0 ≡ number_in bytes.now }
+    ensures rest { result.1.now ≡ after_number bytes.now }
+{
+    if let [first, second, rest @ ..] = bytes {
+        if *first >= 128 && *second < 128 {
+            return (with_low(u64::from(*second), u64::from(*first) - 128), rest);
+        }
+    }
+    if let [first, second, third, rest @ ..] = bytes {
+        if *first >= 128 && *second >= 128 && *third < 128 {
+            let high = with_low(u64::from(*third), u64::from(*second) - 128);
+            return (with_low(high, u64::from(*first) - 128), rest);
         }
     }
     take_long_number(bytes)
@@ -64,7 +91,20 @@ fn take_long_number(bytes: &[u8]) -> (u64, &[u8])
         return (low, rest);
     }
     let (high, rest) = take_long_number(rest);
-    (high.saturating_mul(128).saturating_add(low - 128), rest)
+    (with_low(high, low - 128), rest)
+}
+
+/// Appends two numbers. There must be room for ten bytes of each. Does not allocate.
+#[tactic(auto, using(crate::proofs::PackedNumbers::packed_few))]
+pub(crate) fn put_pair(bytes: &mut Vec<u8>, first: u64, second: u64)
+    requires room { vec_len bytes.old + 20 ≤ vec_capacity bytes.old }
+    ensures bytes { bytes.new.items ≡ bytes.old.items ++ packed_all (first ∷ second ∷ []) }
+    ensures len { vec_len bytes.new ≤ vec_len bytes.old + 20 }
+    ensures room { vec_capacity bytes.new ≡ vec_capacity bytes.old }
+    ensures words { list_all is_word64 (first ∷ second ∷ []) ≡ true }
+{
+    put_number(bytes, first);
+    put_number(bytes, second);
 }
 
 /// The bytes after the given number of numbers.

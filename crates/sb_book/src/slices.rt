@@ -10,11 +10,16 @@ use std::marker::Model;
 pub struct EntrySlice<'a> {
     pub(crate) rows: &'a [EntryRow],
     pub(crate) bytes: &'a [u8],
+    pub(crate) units: &'a [u16],
 }
 
 impl<'a> Drop for EntrySlice<'a> {
     fn drop(self) {
-        let EntrySlice { rows: _, bytes: _ } = self;
+        let EntrySlice {
+            rows: _,
+            bytes: _,
+            units: _,
+        } = self;
     }
 }
 
@@ -26,18 +31,19 @@ impl<'a> Model for EntrySlice<'a> {
 
     ghost Value = { List Entry };
 
-    ghost view = { λ e. map (stored_entry e.bytes.now) e.rows.now };
+    ghost view = { λ e. map (stored_entry e.bytes.now e.units.now) e.rows.now };
 
-    ghost invariant = { λ e. All (IsCut e.bytes.now) e.rows.now };
+    ghost invariant = { λ e. All (IsCut e.bytes.now e.units.now) e.rows.now };
 }
 
 // The entry of a row.
-fn view_of<'a>(bytes: &'a [u8], row: &'a EntryRow) -> EntryView<'a>
-    requires { IsCut bytes.now row.now }
-    ensures { result ≡ stored_entry bytes.now row.now }
+fn view_of<'a>(bytes: &'a [u8], units: &'a [u16], row: &'a EntryRow) -> EntryView<'a>
+    requires { IsCut bytes.now units.now row.now }
+    ensures { result ≡ stored_entry bytes.now units.now row.now }
 {
     let (_, bytes) = bytes.split_at(row.first);
-    EntryView { row, bytes }
+    let (_, units) = units.split_at(row.first_unit);
+    EntryView { row, bytes, units }
 }
 
 // The rows before a place, or all if there are not that many.
@@ -67,7 +73,7 @@ impl<'a> EntrySlice<'a> {
         ensures { result ≡ slice_get self.now place }
     {
         match self.rows.get(place) {
-            Some(row) => Some(view_of(self.bytes, row)),
+            Some(row) => Some(view_of(self.bytes, self.units, row)),
             None => None,
         }
     }
@@ -79,10 +85,11 @@ impl<'a> EntrySlice<'a> {
     {
         match self.rows.split_first() {
             Some((row, rows)) => Some((
-                view_of(self.bytes, row),
+                view_of(self.bytes, self.units, row),
                 EntrySlice {
                     rows,
                     bytes: self.bytes,
+                    units: self.units,
                 },
             )),
             None => None,
@@ -97,6 +104,7 @@ impl<'a> EntrySlice<'a> {
         EntrySlice {
             rows: front(self.rows, place),
             bytes: self.bytes,
+            units: self.units,
         }
     }
 }

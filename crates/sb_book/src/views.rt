@@ -2,11 +2,14 @@
 ghost use Rattle.std.specs.Prelude.{◌≡◌, ◌≤◌, length, slice_index, true};
 ghost use Rattle.sb_block.specs.Copies.{is_copy, mark_of};
 ghost use Rattle.sb_block.specs.Layout.{most_words};
-ghost use Rattle.sb_book.specs.Packing.{after_numbers, numbers_in};
-ghost use Rattle.sb_book.specs.Stores.{after_handle, reply_in};
+ghost use Rattle.sb_book.specs.Packing.{numbers_in};
+ghost use Rattle.sb_book.specs.Rulings.{args_of, decision_with, ruling_of};
+ghost use Rattle.sb_book.specs.StoredArgs.{after_args, args_at};
+ghost use Rattle.sb_book.specs.Stores.{after_ext, after_handle, reply_in};
 
-use crate::decisions::Decision;
 use crate::packing::{after_numbers, take_number, take_numbers};
+use crate::rulings::Ruling;
+use crate::stored_args::{StoredArgs, after_args};
 use crate::stores::EntryRow;
 use sb_block::{BlockCopy, Words};
 use sb_call::{Extended, Reply};
@@ -17,26 +20,44 @@ pub struct EntryView<'a> {
     pub(crate) row: &'a EntryRow,
     // From where the bytes of the row begin.
     pub(crate) bytes: &'a [u8],
+    // From where the units of its strings begin.
+    pub(crate) units: &'a [u16],
+}
+
+/// What is read of an entry at once.
+#[derive(Drop)]
+pub struct EntryParts<'a> {
+    /// The caller's mark: word 1 of the copy, or 0 if the copy is empty.
+    pub mark: u64,
+    /// What was replied.
+    pub reply: Reply,
+    /// The arguments that were granted. Only a call that was performed has any.
+    pub args: StoredArgs<'a>,
 }
 
 impl<'a> Drop for EntryView<'a> {
     fn drop(self) {
-        let EntryView { row: _, bytes: _ } = self;
+        let EntryView {
+            row: _,
+            bytes: _,
+            units: _,
+        } = self;
     }
 }
 
 impl<'a> Model for EntryView<'a> {
     ghost use Rattle.std.specs.Prelude.{◌≡◌, ◌≤◌, true};
-    ghost use Rattle.sb_block.specs.Copies.{is_copy};
+    ghost use Rattle.sb_block.specs.Copies.{is_copy, mark_of};
     ghost use Rattle.sb_block.specs.Layout.{most_words};
-    ghost use Rattle.sb_book.specs.Stores.{copy_in, row_entry};
+    ghost use Rattle.sb_book.specs.Stores.{copy_in, reply_in, row_entry};
     ghost use Rattle.sb_book.specs.declared.entries.Entry.{Entry};
 
     ghost Value = { Entry };
 
-    ghost view = { λ v. row_entry v.row.now v.bytes.now };
+    ghost view = { λ v. row_entry v.row.now v.bytes.now v.units.now };
 
-    ghost invariant = { λ v. (is_copy (copy_in v.row.now v.bytes.now) ≡ true) × (v.row.now.len ≤ most_words) × (v.row.now.ext_len ≤ 7) };
+    ghost invariant = { λ v. (is_copy (copy_in v.row.now v.bytes.now) ≡ true) × (v.row.now.len ≤ most_words) × (v.row.now.ext_len ≤ 7)
+        × (v.row.now.own_mark ≡ true → mark_of (copy_in v.row.now v.bytes.now) ≡ (reply_in v.row.now v.bytes.now).mark) };
 }
 
 // The bytes of an entry after the numbers with which they begin.
@@ -46,11 +67,30 @@ fn after_head(bytes: &[u8]) -> &[u8]
     after_numbers(bytes, 6)
 }
 
-// The bytes of the words of a row's copy.
-fn word_bytes<'a>(row: &EntryRow, bytes: &'a [u8]) -> &'a [u8]
-    ensures { result.now ≡ after_numbers row.now.ext_len (after_handle bytes.now) }
+// The bytes of an entry after the extended words of its reply.
+fn after_ext<'a>(row: &EntryRow, bytes: &'a [u8]) -> &'a [u8]
+    ensures { result.now ≡ after_ext row.now bytes.now }
 {
     after_numbers(after_head(bytes), usize::from(row.ext_len))
+}
+
+// The bytes of the words of a row's copy.
+fn word_bytes<'a>(row: &EntryRow, bytes: &'a [u8]) -> &'a [u8]
+    ensures { result.now ≡ after_args (after_ext row.now bytes.now) }
+{
+    after_args(after_ext(row, bytes))
+}
+
+// The arguments that begin there.
+fn granted<'a>(bytes: &'a [u8], units: &'a [u16]) -> StoredArgs<'a>
+    ensures { result ≡ args_at bytes.now units.now }
+{
+    let (count, bytes) = take_number(bytes);
+    StoredArgs {
+        count: count as usize,
+        bytes,
+        units,
+    }
 }
 
 // The second word of the copy of a row, whose words begin there, or 0 if it has fewer.
@@ -66,11 +106,11 @@ fn second_word(row: &EntryRow, words: &[u8]) -> u64
     word
 }
 
-// What was replied in the entry of a row whose bytes begin there, and the bytes of the words of its copy.
-fn reply_and_words<'a>(row: &EntryRow, bytes: &'a [u8]) -> (Reply, &'a [u8])
+// What was replied in the entry of a row whose bytes begin there, and the bytes after that.
+fn reply_and_rest<'a>(row: &EntryRow, bytes: &'a [u8]) -> (Reply, &'a [u8])
     requires few { row.now.ext_len ≤ 7 }
     ensures reply { result.0 ≡ reply_in row.now bytes.now }
-    ensures words { result.1.now ≡ after_numbers row.now.ext_len (after_handle bytes.now) }
+    ensures rest { result.1.now ≡ after_ext row.now bytes.now }
 {
     let (_, rest) = take_number(bytes);
     let (_, rest) = take_number(rest);
@@ -78,7 +118,7 @@ fn reply_and_words<'a>(row: &EntryRow, bytes: &'a [u8]) -> (Reply, &'a [u8])
     let (outcome, rest) = take_number(rest);
     let (status, rest) = take_number(rest);
     let (handle, rest) = take_number(rest);
-    let (ext, words) = take_numbers(rest, usize::from(row.ext_len));
+    let (ext, rest) = take_numbers(rest, usize::from(row.ext_len));
     let reply = Reply {
         mark,
         outcome,
@@ -86,7 +126,7 @@ fn reply_and_words<'a>(row: &EntryRow, bytes: &'a [u8]) -> (Reply, &'a [u8])
         handle,
         ext: Extended::new(ext),
     };
-    (reply, words)
+    (reply, rest)
 }
 
 impl<'a> EntryView<'a> {
@@ -145,27 +185,38 @@ impl<'a> EntryView<'a> {
         BlockCopy::of(self.count_seen(), self.end_seen(), self.words()).unwrap()
     }
 
-    /// What was decided on the copy.
-    pub fn decision(&self) -> &Decision
-        ensures { result.now ≡ self.now.decision }
+    /// What was decided on the copy, without the arguments.
+    pub fn ruling(&self) -> Ruling
+        ensures { result ≡ ruling_of self.now.decision }
     {
-        &self.row.decision
+        self.row.ruling
     }
 
     /// What was replied. Does not allocate.
     pub fn reply(&self) -> Reply
         ensures { result ≡ self.now.reply }
     {
-        let (reply, _) = reply_and_words(self.row, self.bytes);
+        let (reply, _) = reply_and_rest(self.row, self.bytes);
         reply
     }
 
-    /// The caller's mark and what was replied, from one reading of the entry's bytes. Does not allocate.
-    pub fn mark_and_reply(&self) -> (u64, Reply)
-        ensures mark { result.0 ≡ mark_of self.now.taken }
-        ensures reply { result.1 ≡ self.now.reply }
+    /// The mark, the reply and the arguments, from one reading of the entry's bytes. Does not allocate.
+    pub fn parts(&self) -> EntryParts<'a>
+        ensures mark { result.mark ≡ mark_of self.now.taken }
+        ensures reply { result.reply ≡ self.now.reply }
+        ensures args { result.args ≡ args_of self.now.decision }
+        ensures decision { decision_with (ruling_of self.now.decision) result.args ≡ self.now.decision }
     {
-        let (reply, words) = reply_and_words(self.row, self.bytes);
-        (second_word(self.row, words), reply)
+        let (reply, rest) = reply_and_rest(self.row, self.bytes);
+        let mark = if self.row.own_mark {
+            reply.mark
+        } else {
+            second_word(self.row, after_args(rest))
+        };
+        let args = match self.row.ruling {
+            Ruling::Performed { .. } => granted(rest, self.units),
+            Ruling::Refused(_) | Ruling::Denied { .. } | Ruling::Faked { .. } => StoredArgs::none(),
+        };
+        EntryParts { mark, reply, args }
     }
 }

@@ -2,10 +2,10 @@
 ghost use Rattle.std.specs.Prelude.{◌≡◌, ◌<◌, ◌+◌, ◌++◌, ◌^◌, IfOk, OnOk};
 ghost use Rattle.sb_book.specs.Reports.{result_count, thread_count};
 ghost use Rattle.sb_transcript.specs.Totals.{is_performed, is_faked, is_denied, is_refused, count_of, counted, decisions_text, totals_line};
-ghost use Rattle.sb_transcript.specs.Counts.{sum_of, with_decision};
+ghost use Rattle.sb_transcript.specs.Counts.{sum_of, with_ruling};
 
 use sb_base::{NoMemory, put_named};
-use sb_book::{Decision, Entries, Report, TargetResults, ThreadResults};
+use sb_book::{Entries, Report, Ruling, TargetResults, ThreadResults};
 use std::alloc::Global;
 
 // How many entries have each decision.
@@ -17,10 +17,10 @@ struct DecisionCounts {
     refused: usize,
 }
 
-// The counts with one decision more.
-fn with_decision(counts: DecisionCounts, decision: &Decision) -> DecisionCounts
+// The counts with one ruling more.
+fn with_ruling(counts: DecisionCounts, ruling: Ruling) -> DecisionCounts
     requires { sum_of counts + 1 < 2 ^ 64 }
-    ensures value { result ≡ with_decision counts decision.now }
+    ensures value { result ≡ with_ruling counts ruling }
     ensures sum { sum_of result ≡ sum_of counts + 1 }
 {
     let DecisionCounts {
@@ -29,20 +29,20 @@ fn with_decision(counts: DecisionCounts, decision: &Decision) -> DecisionCounts
         denied,
         refused,
     } = counts;
-    match decision {
-        Decision::Performed { .. } => DecisionCounts {
+    match ruling {
+        Ruling::Performed { .. } => DecisionCounts {
             performed: performed + 1,
             ..counts
         },
-        Decision::Faked { .. } => DecisionCounts {
+        Ruling::Faked { .. } => DecisionCounts {
             faked: faked + 1,
             ..counts
         },
-        Decision::Denied { .. } => DecisionCounts {
+        Ruling::Denied { .. } => DecisionCounts {
             denied: denied + 1,
             ..counts
         },
-        Decision::Refused(_) => DecisionCounts {
+        Ruling::Refused(_) => DecisionCounts {
             refused: refused + 1,
             ..counts
         },
@@ -65,7 +65,7 @@ fn decision_counts(entries: &Entries) -> DecisionCounts
     };
     let mut rest = entries.as_slice();
     while let Some((entry, later)) = rest.split_first() {
-        counts = with_decision(counts, entry.decision());
+        counts = with_ruling(counts, entry.ruling());
         rest = later;
     }
     counts

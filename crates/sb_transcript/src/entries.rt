@@ -2,12 +2,14 @@
 ghost use Rattle.std.specs.Prelude.{◌≡◌, ◌++◌, codes, IfOk, OnOk};
 ghost use Rattle.std.specs.Fmt.{decimal};
 ghost use Rattle.std.specs.List.{flat_map};
+ghost use Rattle.sb_book.specs.Rulings.{decision_with};
+ghost use Rattle.sb_book.specs.StoredArgs.{arg_seen};
 ghost use Rattle.sb_transcript.specs.EntryLines.{fault_text, argument_text, denial_word, grant_word, verdict_text, decision_text, reply_text, target_name, entry_line};
 
 use crate::comma_words::put_comma_words;
 use sb_base::{NoMemory, put_decimal, put_eight_digits, put_hexadecimal, put_named, quote_into};
 use sb_block::BlockFault;
-use sb_book::{Decision, EntryView};
+use sb_book::{EntryParts, EntryView, Ruling, StoredArg, StoredArgs};
 use sb_call::{Arg, Reply, call_word};
 use sb_rule::{Action, Verdict};
 use sb_statements::Script;
@@ -43,17 +45,17 @@ pub fn put_fault(line: &mut Vec<u8>, fault: BlockFault) -> Result<(), NoMemory>
     }
 }
 
-fn put_argument(line: &mut Vec<u8>, arg: &Arg) -> Result<(), NoMemory>
-    ensures { OnOk result (line.new.items ≡ line.old.items ++ argument_text arg.now) }
+fn put_argument(line: &mut Vec<u8>, arg: StoredArg<'_>) -> Result<(), NoMemory>
+    ensures { OnOk result (line.new.items ≡ line.old.items ++ argument_text (arg_seen arg.entry)) }
 {
     match arg {
-        Arg::Num(number) => {
+        StoredArg::Num(number) => {
             line.extend_from_slice(b" 0x")?;
-            put_hexadecimal(line, *number)
+            put_hexadecimal(line, number)
         }
-        Arg::Str(text) => {
+        StoredArg::Str(units) => {
             line.push(b' ')?;
-            quote_into(line, text.as_units())
+            quote_into(line, units)
         }
     }
 }
@@ -66,7 +68,19 @@ pub fn put_arguments(line: &mut Vec<u8>, args: &[Arg]) -> Result<(), NoMemory>
     ensures { OnOk result (line.new.items ≡ line.old.items ++ flat_map argument_text args.now) }
 {
     for arg in args {
+        put_argument(line, StoredArg::of(arg))?;
+    }
+    Ok(())
+}
+
+// The same of arguments that an entry stores.
+fn put_stored(line: &mut Vec<u8>, args: StoredArgs<'_>) -> Result<(), NoMemory>
+    ensures { OnOk result (line.new.items ≡ line.old.items ++ flat_map argument_text args.entry) }
+{
+    let mut rest = args;
+    while let Some((arg, later)) = rest.split_first() {
         put_argument(line, arg)?;
+        rest = later;
     }
     Ok(())
 }
@@ -101,34 +115,33 @@ fn put_verdict(line: &mut Vec<u8>, verdict: Verdict) -> Result<(), NoMemory>
     }
 }
 
-fn put_decision(line: &mut Vec<u8>, decision: &Decision) -> Result<(), NoMemory>
-    ensures { OnOk result (line.new.items ≡ line.old.items ++ decision_text decision.now) }
+fn put_decision(line: &mut Vec<u8>, ruling: Ruling, args: StoredArgs<'_>) -> Result<(), NoMemory>
+    ensures { OnOk result (line.new.items ≡ line.old.items ++ decision_text (decision_with ruling args.entry)) }
 {
-    match decision {
-        Decision::Refused(fault) => {
+    match ruling {
+        Ruling::Refused(fault) => {
             line.extend_from_slice(b"refused ")?;
-            put_fault(line, *fault)
+            put_fault(line, fault)
         }
-        Decision::Denied { tag, verdict } => {
+        Ruling::Denied { tag, verdict } => {
             line.extend_from_slice(b"denied ")?;
-            line.extend_from_slice(call_word(*tag))?;
-            put_verdict(line, *verdict)
+            line.extend_from_slice(call_word(tag))?;
+            put_verdict(line, verdict)
         }
-        Decision::Faked { tag, line: number } => {
+        Ruling::Faked { tag, line: number } => {
             line.extend_from_slice(b"faked ")?;
-            line.extend_from_slice(call_word(*tag))?;
-            put_named(line, b" rule ", u64::from(*number))
+            line.extend_from_slice(call_word(tag))?;
+            put_named(line, b" rule ", u64::from(number))
         }
-        Decision::Performed {
+        Ruling::Performed {
             tag,
             line: number,
             action,
-            args,
         } => {
             line.extend_from_slice(b"performed ")?;
-            line.extend_from_slice(call_word(*tag))?;
-            put_arguments(line, args.as_slice())?;
-            put_named(line, grant_word(*action), u64::from(*number))
+            line.extend_from_slice(call_word(tag))?;
+            put_stored(line, args)?;
+            put_named(line, grant_word(action), u64::from(number))
         }
     }
 }
@@ -151,29 +164,29 @@ pub fn put_reply(line: &mut Vec<u8>, reply: &Reply) -> Result<(), NoMemory>
     Ok(())
 }
 
-// Appends the line of entry `n` with these parts.
+// Appends the line of entry `n` of this target and channel, with its ruling and its other parts.
 fn put_parts(
     line: &mut Vec<u8>,
     script: &Script,
     n: u64,
     place: (u32, u32),
-    mark: u64,
-    decision: &Decision,
-    reply: &Reply,
+    ruling: Ruling,
+    parts: EntryParts<'_>,
 ) -> Result<(), NoMemory>
     ensures { OnOk result (line.new.items ≡ line.old.items ++ (codes "entry " ++ decimal n ++ codes " " ++ target_name script.now place.0
-        ++ codes " " ++ decimal place.1 ++ codes " mark " ++ decimal mark ++ codes " " ++ decision_text decision.now
-        ++ codes " reply " ++ reply_text reply.now ++ codes "\n")) }
+        ++ codes " " ++ decimal place.1 ++ codes " mark " ++ decimal parts.entry.mark ++ codes " " ++ decision_text (decision_with ruling parts.entry.args)
+        ++ codes " reply " ++ reply_text parts.entry.reply ++ codes "\n")) }
 {
+    let EntryParts { mark, reply, args } = parts;
     put_named(line, b"entry ", n)?;
     line.push(b' ')?;
     line.extend_from_slice(script.target_name(place.0 as usize))?;
     put_named(line, b" ", u64::from(place.1))?;
     put_named(line, b" mark ", mark)?;
     line.push(b' ')?;
-    put_decision(line, decision)?;
+    put_decision(line, ruling, args)?;
     line.extend_from_slice(b" reply ")?;
-    put_reply(line, reply)?;
+    put_reply(line, &reply)?;
     line.push(b'\n')?;
     Ok(())
 }
@@ -191,8 +204,7 @@ pub fn put_entry_line(
     ensures { OnOk result (line.new.items ≡ line.old.items ++ entry_line script.now n entry.now) }
 {
     let place = (entry.target(), entry.channel());
-    let (mark, reply) = entry.mark_and_reply();
-    put_parts(line, script, n, place, mark, entry.decision(), &reply)
+    put_parts(line, script, n, place, entry.ruling(), entry.parts())
 }
 
 /// The line of entry `n` of a history, counted from 0, with its LF.

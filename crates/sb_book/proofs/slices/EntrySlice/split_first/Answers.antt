@@ -5,4 +5,4 @@ use Rattle.sb_book.proofs.slices.EntrySlice.split_first.Goals as goal
 pub invariant_of-result : goal.invariant_of-result
 invariant_of-result c =
     let all : c.self.inside.rows.now ≡ c.in-Some.row.now ∷ c.in-Some.rows.now = search rules in
-    rest_is_cut c.self.inside.bytes.now c.self.inside.rows.now c.in-Some.rows.now c.in-Some.row.now all c.self.invariant
+    rest_is_cut c.self.inside.bytes.now c.self.inside.units.now c.self.inside.rows.now c.in-Some.rows.now c.in-Some.row.now all c.self.invariant
