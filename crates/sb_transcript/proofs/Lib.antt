@@ -15,6 +15,7 @@ pub mod PrintedLines
 pub mod Putting
 pub mod RepliesBack
 pub mod ResultsBack
+pub mod Successes
 pub mod Unquoted
 pub mod Unquoting
 pub mod Words

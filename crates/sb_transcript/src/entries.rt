@@ -2,8 +2,10 @@
 ghost use Rattle.std.specs.Prelude.{◌≡◌, ◌++◌, codes, IfOk, OnOk};
 ghost use Rattle.std.specs.Fmt.{decimal};
 ghost use Rattle.std.specs.List.{flat_map};
+ghost use Rattle.sb_base.specs.Numbers.{eight_digits};
 ghost use Rattle.sb_book.specs.Rulings.{decision_with};
 ghost use Rattle.sb_book.specs.StoredArgs.{arg_seen};
+ghost use Rattle.sb_transcript.specs.CommaWords.{comma_words};
 ghost use Rattle.sb_transcript.specs.EntryLines.{fault_text, argument_text, denial_word, grant_word, verdict_text, decision_text, reply_text, target_name, entry_line};
 
 use crate::comma_words::put_comma_words;
@@ -146,6 +148,35 @@ fn put_decision(line: &mut Vec<u8>, ruling: Ruling, args: StoredArgs<'_>) -> Res
     }
 }
 
+// Appends an outcome and a status, with a blank after each. Most are those of a success.
+#[tactic(auto, using(crate::proofs::Successes::success))]
+fn put_outcome(line: &mut Vec<u8>, outcome: u64, status: u64) -> Result<(), NoMemory>
+    ensures { OnOk result (line.new.items ≡ line.old.items ++ (decimal outcome ++ codes " " ++ eight_digits status ++ codes " ")) }
+{
+    if outcome == 0 && status == 0 {
+        return Ok(line.extend_from_slice(b"0 00000000 ")?);
+    }
+    put_decimal(line, outcome)?;
+    line.push(b' ')?;
+    put_eight_digits(line, status)?;
+    line.push(b' ')?;
+    Ok(())
+}
+
+// Appends extended words between brackets, after a blank. Most replies have none.
+#[tactic(auto, using(crate::proofs::Successes::no_words))]
+fn put_extended(line: &mut Vec<u8>, words: &[u64]) -> Result<(), NoMemory>
+    ensures { OnOk result (line.new.items ≡ line.old.items ++ (codes " [" ++ comma_words words.now ++ codes "]")) }
+{
+    if words.is_empty() {
+        return Ok(line.extend_from_slice(b" []")?);
+    }
+    line.extend_from_slice(b" [")?;
+    put_comma_words(line, words)?;
+    line.push(b']')?;
+    Ok(())
+}
+
 /// Appends a reply: its outcome, status, handle and extended words.
 ///
 /// # Errors
@@ -153,15 +184,9 @@ fn put_decision(line: &mut Vec<u8>, ruling: Ruling, args: StoredArgs<'_>) -> Res
 pub fn put_reply(line: &mut Vec<u8>, reply: &Reply) -> Result<(), NoMemory>
     ensures { OnOk result (line.new.items ≡ line.old.items ++ reply_text reply.now) }
 {
-    put_decimal(line, reply.outcome)?;
-    line.push(b' ')?;
-    put_eight_digits(line, reply.status)?;
-    line.push(b' ')?;
+    put_outcome(line, reply.outcome, reply.status)?;
     put_decimal(line, reply.handle)?;
-    line.extend_from_slice(b" [")?;
-    put_comma_words(line, reply.ext.as_slice())?;
-    line.push(b']')?;
-    Ok(())
+    put_extended(line, reply.ext.as_slice())
 }
 
 // Appends the line of entry `n` of this target and channel, with its ruling and its other parts.
