@@ -1,11 +1,52 @@
-// How numbers are written. What the bytes are after an error is not specified. Most numbers of a transcript have one digit, most arguments at
-// most four hexadecimal digits, and most statuses are 0 or have eight digits: these are written without formatting.
-ghost use Rattle.std.specs.Prelude.{◌≡◌, ◌<◌, ◌++◌, false, OnOk};
+// How numbers are written. What the bytes are after an error is not specified. Most numbers of a transcript have at most five digits, most
+// arguments at most four hexadecimal digits, and most statuses are 0 or have eight digits: these are written without formatting.
+ghost use Rattle.std.specs.Prelude.{◌≡◌, ◌≤◌, ◌<◌, ◌+◌, ◌++◌, false, OnOk};
 ghost use Rattle.std.specs.Fmt.{decimal, digit_glyph};
 ghost use Rattle.sb_base.specs.Numbers.{hexadecimal, eight_digits};
 
 use crate::memory::NoMemory;
 use std::io::Write;
+
+// The digit of a number below ten.
+fn decimal_digit(value: u64) -> u8
+    requires { value < 10 }
+    ensures { result ≡ 48 + value }
+{
+    b'0' + value as u8
+}
+
+// Appends a number of two to five digits.
+#[tactic(auto, using(crate::proofs::Digits::two_decimals, crate::proofs::Digits::three_decimals, crate::proofs::Digits::four_decimals, crate::proofs::Digits::five_decimals))]
+fn put_few_digits(out: &mut Vec<u8>, number: u64) -> Result<(), NoMemory>
+    requires large { 10 ≤ number }
+    requires small { number < 100000 }
+    ensures { OnOk result (out.new.items ≡ out.old.items ++ decimal number) }
+{
+    let tens = number / 10;
+    let last = decimal_digit(number % 10);
+    if number < 100 {
+        return Ok(out.extend_from_slice(&[decimal_digit(tens), last])?);
+    }
+    let hundreds = tens / 10;
+    let second = decimal_digit(tens % 10);
+    if number < 1000 {
+        return Ok(out.extend_from_slice(&[decimal_digit(hundreds), second, last])?);
+    }
+    let thousands = hundreds / 10;
+    let third = decimal_digit(hundreds % 10);
+    if number < 10_000 {
+        let digits = [decimal_digit(thousands), third, second, last];
+        return Ok(out.extend_from_slice(&digits)?);
+    }
+    let digits = [
+        decimal_digit(thousands / 10),
+        decimal_digit(thousands % 10),
+        third,
+        second,
+        last,
+    ];
+    Ok(out.extend_from_slice(&digits)?)
+}
 
 /// Appends a number in decimal.
 ///
@@ -16,7 +57,10 @@ pub fn put_decimal(out: &mut Vec<u8>, number: u64) -> Result<(), NoMemory>
     ensures { OnOk result (out.new.items ≡ out.old.items ++ decimal number) }
 {
     if number < 10 {
-        return Ok(out.push(b'0' + number as u8)?);
+        return Ok(out.push(decimal_digit(number))?);
+    }
+    if number < 100_000 {
+        return put_few_digits(out, number);
     }
     let mut digits = itoa::Buffer::new();
     out.extend_from_slice(digits.format(number).as_bytes())?;
