@@ -12,7 +12,7 @@ CALLS = 4096
 LONG = "n" * 1_300_000
 FILES = 2000
 PIPES = 4096
-MOST_SECONDS_OF_PIPES = 0.03
+MOST_SECONDS_OF_PIPES = 0.015
 
 # What is measured, with its opening, its calls, and the most seconds that the best run may take. The names are as long, and the
 # lines as many, as the limits of scripts let them be, or nearly.
