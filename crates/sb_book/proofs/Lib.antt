@@ -1,8 +1,6 @@
-pub mod ArgsBack
 pub mod Fitting
 pub mod HistoryLaws
 pub mod Legal
-pub mod PackedNumbers
 pub mod Ready
 pub mod Sayings
 pub mod Storing

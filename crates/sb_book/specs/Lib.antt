@@ -2,7 +2,6 @@ pub mod Decisions
 pub mod Headline
 pub mod Histories
 pub mod Laws
-pub mod Packing
 pub mod Readiness
 pub mod ReadyScripts
 pub mod Replies

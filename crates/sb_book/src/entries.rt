@@ -1,15 +1,11 @@
 // The entries of the history.
-ghost use Rattle.std.specs.Prelude.{◌≡◌, ◌<◌, ◌^◌, ◌++◌, ◌∷◌, [], true, length, OnOk, OnErr};
-ghost use Rattle.sb_book.specs.Rulings.{args_of};
-ghost use Rattle.sb_book.specs.Stores.{is_room};
+ghost use Rattle.std.specs.Prelude.{◌≡◌, ◌<◌, ◌^◌, length};
 
 use crate::decisions::Decision;
 use crate::slices::EntrySlice;
 use crate::stores::EntryStore;
-use sb_base::NoMemory;
 use sb_block::BlockCopy;
 use sb_call::Reply;
-use std::alloc::Global;
 use std::marker::Model;
 
 /// One answered block: whose it was, the copy that was taken of it, the decision and the reply.
@@ -38,23 +34,6 @@ impl Drop for Entry {
     }
 }
 
-impl Entry {
-    // Appends the entry to a store that has room for it.
-    fn put_into(self, store: &mut EntryStore)
-        requires room { is_room (args_of self.decision) store.old.room ≡ true }
-        ensures entries { store.new.entries ≡ store.old.entries ++ self ∷ [] }
-    {
-        let Entry {
-            target,
-            channel,
-            taken,
-            decision,
-            reply,
-        } = self;
-        store.push_reserved(target, channel, &taken, &decision, &reply);
-    }
-}
-
 /// Entries, in the order in which they were answered. An entry needs memory for what its copy, its reply and its arguments have, and not for
 /// the most that they may have. Contracts see the list of the entries.
 pub struct Entries {
@@ -77,15 +56,6 @@ impl Model for Entries {
 }
 
 impl Entries {
-    /// No entries. Does not allocate.
-    pub fn empty(alloc: Global) -> Entries
-        ensures { result ≡ [] }
-    {
-        Entries {
-            store: EntryStore::new(alloc),
-        }
-    }
-
     /// The entries that are stored there. Does not allocate.
     pub(crate) fn of(store: EntryStore) -> Entries
         ensures { result ≡ store.entries }
@@ -106,18 +76,5 @@ impl Entries {
         ensures { result ≡ self.now }
     {
         self.store.as_slice()
-    }
-
-    /// Appends an entry. After an error the entries are as they were.
-    ///
-    /// # Errors
-    /// `NoMemory` if there is none for the entry.
-    pub fn push(&mut self, entry: Entry) -> Result<(), NoMemory>
-        ensures ok { OnOk result (self.new ≡ self.old ++ entry ∷ []) }
-        ensures err { OnErr result (self.new ≡ self.old) }
-    {
-        self.store.reserve(entry.decision.args())?;
-        entry.put_into(&mut self.store);
-        Ok(())
     }
 }

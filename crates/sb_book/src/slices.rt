@@ -1,7 +1,8 @@
 // Entries, borrowed from what stores them.
 ghost use Rattle.std.specs.Prelude.{◌≡◌, ◌∷◌, [], length, slice_get, take, MatchOption};
-ghost use Rattle.sb_book.specs.Stores.{IsCut, stored_entry};
+ghost use Rattle.sb_book.specs.Stores.{IsCut, buffers, stored_entry};
 
+use crate::stored_args::ArgRow;
 use crate::stores::EntryRow;
 use crate::views::EntryView;
 use std::marker::Model;
@@ -9,7 +10,8 @@ use std::marker::Model;
 /// Entries that are borrowed from what stores them. Contracts see the list of the entries.
 pub struct EntrySlice<'a> {
     pub(crate) rows: &'a [EntryRow],
-    pub(crate) bytes: &'a [u8],
+    pub(crate) words: &'a [u64],
+    pub(crate) args: &'a [ArgRow],
     pub(crate) units: &'a [u16],
 }
 
@@ -17,7 +19,8 @@ impl<'a> Drop for EntrySlice<'a> {
     fn drop(self) {
         let EntrySlice {
             rows: _,
-            bytes: _,
+            words: _,
+            args: _,
             units: _,
         } = self;
     }
@@ -26,24 +29,32 @@ impl<'a> Drop for EntrySlice<'a> {
 impl<'a> Model for EntrySlice<'a> {
     ghost use Rattle.std.specs.Prelude.{List, map};
     ghost use Rattle.std.specs.List.{All};
-    ghost use Rattle.sb_book.specs.Stores.{IsCut, stored_entry};
+    ghost use Rattle.sb_book.specs.Stores.{IsCut, buffers, stored_entry};
     ghost use Rattle.sb_book.specs.declared.entries.Entry.{Entry};
 
     ghost Value = { List Entry };
 
-    ghost view = { λ e. map (stored_entry e.bytes.now e.units.now) e.rows.now };
+    ghost view = { λ e. map (stored_entry (buffers e.words.now e.args.now e.units.now)) e.rows.now };
 
-    ghost invariant = { λ e. All (IsCut e.bytes.now e.units.now) e.rows.now };
+    ghost invariant = { λ e. All (IsCut (buffers e.words.now e.args.now e.units.now)) e.rows.now };
 }
 
 // The entry of a row.
-fn view_of<'a>(bytes: &'a [u8], units: &'a [u16], row: &'a EntryRow) -> EntryView<'a>
-    requires { IsCut bytes.now units.now row.now }
-    ensures { result ≡ stored_entry bytes.now units.now row.now }
+fn view_of<'a>(
+    words: &'a [u64],
+    args: &'a [ArgRow],
+    units: &'a [u16],
+    row: &'a EntryRow,
+) -> EntryView<'a>
+    requires { IsCut (buffers words.now args.now units.now) row.now }
+    ensures { result ≡ stored_entry (buffers words.now args.now units.now) row.now }
 {
-    let (_, bytes) = bytes.split_at(row.first);
-    let (_, units) = units.split_at(row.first_unit);
-    EntryView { row, bytes, units }
+    EntryView {
+        row,
+        words,
+        args,
+        units,
+    }
 }
 
 // The rows before a place, or all if there are not that many.
@@ -73,7 +84,7 @@ impl<'a> EntrySlice<'a> {
         ensures { result ≡ slice_get self.now place }
     {
         match self.rows.get(place) {
-            Some(row) => Some(view_of(self.bytes, self.units, row)),
+            Some(row) => Some(view_of(self.words, self.args, self.units, row)),
             None => None,
         }
     }
@@ -85,10 +96,11 @@ impl<'a> EntrySlice<'a> {
     {
         match self.rows.split_first() {
             Some((row, rows)) => Some((
-                view_of(self.bytes, self.units, row),
+                view_of(self.words, self.args, self.units, row),
                 EntrySlice {
                     rows,
-                    bytes: self.bytes,
+                    words: self.words,
+                    args: self.args,
                     units: self.units,
                 },
             )),
@@ -103,7 +115,8 @@ impl<'a> EntrySlice<'a> {
     {
         EntrySlice {
             rows: front(self.rows, place),
-            bytes: self.bytes,
+            words: self.words,
+            args: self.args,
             units: self.units,
         }
     }

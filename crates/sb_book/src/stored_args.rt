@@ -1,13 +1,18 @@
-// The arguments of entries as they are stored: two numbers for each, among the bytes of its entry, and the units of all strings in one buffer.
-ghost use Rattle.std.specs.Prelude.{◌≡◌, ◌≤◌, ◌<◌, ◌+◌, ◌*◌, ◌^◌, ◌++◌, ◌∷◌, [], drop, length, take, true, vec_capacity, vec_len, IfSome, MatchOption};
-ghost use Rattle.std.specs.List.{list_all};
-ghost use Rattle.sb_base.specs.Numbers.{is_word64};
-ghost use Rattle.sb_book.specs.Packing.{packed_all};
-ghost use Rattle.sb_book.specs.StoredArgs.{after_args, arg_numbers, arg_seen, arg_units};
+// The arguments of entries as they are stored: numbers as they are, and of each string where its units lie in one buffer.
+ghost use Rattle.std.specs.Prelude.{◌≡◌, ◌≤◌, ◌+◌, ◌^◌, ◌++◌, ◌∷◌, [], length, vec_capacity, vec_len, MatchOption};
+ghost use Rattle.sb_book.specs.StoredArgs.{arg_rows, arg_seen, arg_units};
 
-use crate::packing::{put_pair, take_number};
 use sb_call::Arg;
 use std::marker::Model;
+
+/// What is stored of an argument.
+#[derive(Clone, Copy)]
+pub(crate) enum ArgRow {
+    /// A number.
+    Num(u64),
+    /// A wide string: where its units begin in their buffer, and how many they are.
+    Str { first: usize, len: usize },
+}
 
 /// An argument that is borrowed from what stores it.
 #[derive(Clone, Copy)]
@@ -20,31 +25,27 @@ pub enum StoredArg<'a> {
 
 /// Arguments that are borrowed from the entries that store them. Contracts see the list of the arguments.
 pub struct StoredArgs<'a> {
-    pub(crate) count: usize,
-    // From where their numbers begin.
-    pub(crate) bytes: &'a [u8],
-    // From where the units of their strings begin.
+    pub(crate) rows: &'a [ArgRow],
     pub(crate) units: &'a [u16],
 }
 
 impl<'a> Drop for StoredArgs<'a> {
     fn drop(self) {
-        let StoredArgs {
-            count: _,
-            bytes: _,
-            units: _,
-        } = self;
+        let StoredArgs { rows: _, units: _ } = self;
     }
 }
 
 impl<'a> Model for StoredArgs<'a> {
-    ghost use Rattle.std.specs.Prelude.{List};
+    ghost use Rattle.std.specs.Prelude.{◌≡◌, List, map, true};
+    ghost use Rattle.std.specs.List.{list_all};
     ghost use Rattle.sb_call.specs.declared.arguments.Arg.{Arg};
-    ghost use Rattle.sb_book.specs.StoredArgs.{args_in};
+    ghost use Rattle.sb_book.specs.StoredArgs.{has_units, stored_arg};
 
     ghost Value = { List Arg };
 
-    ghost view = { λ a. args_in a.count a.bytes.now a.units.now };
+    ghost view = { λ a. map (stored_arg a.units.now) a.rows.now };
+
+    ghost invariant = { λ a. list_all (has_units a.units.now) a.rows.now ≡ true };
 }
 
 impl<'a> StoredArg<'a> {
@@ -59,112 +60,53 @@ impl<'a> StoredArg<'a> {
     }
 }
 
-// The first units, or all if there are not that many, and the others.
-#[tactic(auto, using(crate::proofs::ArgsBack::all_taken, crate::proofs::ArgsBack::none_left))]
-fn split_units(units: &[u16], len: u64) -> (&[u16], &[u16])
-    ensures front { result.0.now ≡ take len units.now }
-    ensures rest { result.1.now ≡ drop len units.now }
-{
-    if len >= units.len() as u64 {
-        return (units, &[]);
-    }
-    units.split_at(len as usize)
-}
-
 impl<'a> StoredArgs<'a> {
-    // No arguments.
-    pub(crate) fn none() -> StoredArgs<'a>
-        ensures { result ≡ [] }
-    {
-        StoredArgs {
-            count: 0,
-            bytes: &[],
-            units: &[],
-        }
-    }
-
     /// The first argument and those after it, or None if there are none.
-    #[tactic(auto, using(crate::proofs::ArgsBack::first_number, crate::proofs::ArgsBack::first_string))]
+    #[tactic(auto, using(crate::proofs::Storing::first_has_units, crate::proofs::Storing::rest_has_units))]
     pub fn split_first(&self) -> Option<(StoredArg<'a>, StoredArgs<'a>)>
         ensures { MatchOption result (self.now ≡ []) (λ parts. self.now ≡ arg_seen parts.0 ∷ parts.1) }
     {
-        if self.count == 0 {
-            return None;
-        }
-        let count = self.count - 1;
-        let (kind, rest) = take_number(self.bytes);
-        let (number, bytes) = take_number(rest);
-        if kind == 0 {
-            let units = self.units;
-            return Some((
-                StoredArg::Num(number),
-                StoredArgs {
-                    count,
-                    bytes,
-                    units,
-                },
-            ));
-        }
-        let (text, units) = split_units(self.units, kind - 1);
-        Some((
-            StoredArg::Str(text),
-            StoredArgs {
-                count,
-                bytes,
-                units,
-            },
-        ))
+        let units = self.units;
+        let (row, rows) = self.rows.split_first()?;
+        let arg = match *row {
+            ArgRow::Num(number) => StoredArg::Num(number),
+            ArgRow::Str { first, len } => StoredArg::Str(&units[first..first + len]),
+        };
+        Some((arg, StoredArgs { rows, units }))
     }
 }
 
-/// The bytes after arguments.
-#[tactic(auto, using(crate::proofs::ArgsBack::pair_more))]
-pub(crate) fn after_args(bytes: &[u8]) -> &[u8]
-    ensures { result.now ≡ after_args bytes.now }
-{
-    let (count, later) = take_number(bytes);
-    let mut rest = later;
-    let mut left = count;
-    while left > 0 {
-        let (_, number) = take_number(rest);
-        let (_, later) = take_number(number);
-        rest = later;
-        left -= 1;
-    }
-    rest
-}
-
-/// How many units the strings of these arguments have, if that is a number of 64 bits.
+/// How many units the strings of these arguments have, or None if that is not below 2^64.
 pub(crate) fn unit_count(args: &[Arg]) -> Option<usize>
-    ensures { IfSome result (λ count. count ≡ length (arg_units args.now)) }
+    ensures { MatchOption result (2 ^ 64 ≤ length (arg_units args.now)) (λ count. count ≡ length (arg_units args.now)) }
 {
-    let mut count = 0;
+    let mut count: usize = 0;
     let mut rest = args;
     while let Some((arg, later)) = rest.split_first() {
         if let Arg::Str(text) = arg {
-            count = text.len().checked_add(count)?;
+            count = count.checked_add(text.len())?;
         }
         rest = later;
     }
     Some(count)
 }
 
-/// Appends arguments. There must be room for 20 bytes of each, and for the units of their strings. Does not allocate.
-pub(crate) fn put_args(bytes: &mut Vec<u8>, units: &mut Vec<u16>, args: &[Arg])
-    requires bytes_room { vec_len bytes.old + 20 * length args.now ≤ vec_capacity bytes.old }
+/// Appends arguments. There must be room for them, and for the units of their strings. Does not allocate.
+pub(crate) fn put_args(rows: &mut Vec<ArgRow>, units: &mut Vec<u16>, args: &[Arg])
+    requires rows_room { vec_len rows.old + length args.now ≤ vec_capacity rows.old }
     requires units_room { vec_len units.old + length (arg_units args.now) ≤ vec_capacity units.old }
-    ensures bytes { bytes.new.items ≡ bytes.old.items ++ packed_all (arg_numbers args.now) }
-    ensures len { vec_len bytes.new ≤ vec_len bytes.old + 20 * length args.now }
-    ensures room { vec_capacity bytes.new ≡ vec_capacity bytes.old }
+    ensures rows { rows.new.items ≡ rows.old.items ++ arg_rows (length units.old.items) args.now }
     ensures units { units.new.items ≡ units.old.items ++ arg_units args.now }
-    ensures words { list_all is_word64 (arg_numbers args.now) ≡ true }
 {
     let mut rest = args;
     while let Some((arg, later)) = rest.split_first() {
         match arg {
-            Arg::Num(number) => put_pair(bytes, 0, *number),
+            Arg::Num(number) => rows.push_reserved(ArgRow::Num(*number)),
             Arg::Str(text) => {
-                put_pair(bytes, text.len() as u64 + 1, 0);
+                rows.push_reserved(ArgRow::Str {
+                    first: units.len(),
+                    len: text.len(),
+                });
                 let _fits = units.extend_from_slice(text.as_units());
             }
         }

@@ -1,77 +1,67 @@
-// How entries are stored: a row for each, one buffer with the numbers of all copies, replies and arguments as bytes, and one with the units of
-// the arguments' strings.
-ghost use Rattle.std.specs.Prelude.{◌≡◌, ◌≤◌, ◌<◌, ◌+◌, ◌*◌, ◌++◌, ◌∷◌, ◌^◌, [], true, length, IfSome, OnOk};
+// How entries are stored: a row for each, one buffer with the words of all copies, one with all arguments, and one with the units of their
+// strings.
+ghost use Rattle.std.specs.Prelude.{◌≡◌, ◌<◌, ◌++◌, ◌∷◌, ◌^◌, [], true, length, OnOk};
 ghost use Rattle.sb_book.specs.Rulings.{args_of};
-ghost use Rattle.sb_book.specs.Stores.{entry_with, head_of, is_room, most_entry_bytes};
+ghost use Rattle.sb_book.specs.Stores.{entry_with, is_room};
 
 use crate::decisions::Decision;
-use crate::packing::put_numbers;
 use crate::rulings::Ruling;
 use crate::slices::EntrySlice;
-use crate::stored_args::{put_args, unit_count};
+use crate::stored_args::{ArgRow, put_args, unit_count};
 use sb_base::NoMemory;
-use sb_block::BlockCopy;
+use sb_block::{BlockCopy, MOST_WORDS};
 use sb_call::{Arg, Reply};
 use std::alloc::Global;
 use std::marker::Model;
 
-/// The most bytes of an entry without arguments: of 64 words of a copy, 7 extended words of a reply, and seven numbers more, ten of each.
-const MOST_ENTRY_BYTES: usize = 780;
-
-/// The most bytes of an argument, which has two numbers.
-const MOST_ARG_BYTES: usize = 20;
-
-/// For how many entries room is made at once, if there is memory for them.
-const MANY_ENTRIES: usize = 8192;
-
-/// How many bytes room is made for with each of these. Most entries have fewer.
-const ENTRY_BYTES: usize = 96;
-
-/// What is stored of an entry beside the numbers of its copy, its reply and its arguments.
+/// What is stored of an entry beside the words of its copy and its arguments.
 pub(crate) struct EntryRow {
-    // Where its bytes begin in their buffer.
-    pub(crate) first: usize,
-    // Where the units of its strings begin in theirs.
-    pub(crate) first_unit: usize,
-    pub(crate) ruling: Ruling,
     pub(crate) target: u32,
     pub(crate) channel: u32,
-    // Whether the reply's mark is that of the copy.
-    pub(crate) own_mark: bool,
-    // How many words the copy has, at most 64.
-    pub(crate) len: u8,
-    // How many extended words the reply has, at most 7.
-    pub(crate) ext_len: u8,
+    pub(crate) ruling: Ruling,
+    pub(crate) reply: Reply,
+    // The count and the end that were loaded before the copy.
+    pub(crate) count: u64,
+    pub(crate) end: u64,
+    // Where the words of the copy begin in their buffer, and how many they are, at most 64.
+    pub(crate) first_word: usize,
+    pub(crate) word_count: usize,
+    // Where the arguments begin in theirs, and how many they are.
+    pub(crate) first_arg: usize,
+    pub(crate) arg_count: usize,
 }
 
 impl Drop for EntryRow {
     fn drop(self) {
         let EntryRow {
-            first: _,
-            first_unit: _,
-            ruling: _,
             target: _,
             channel: _,
-            own_mark: _,
-            len: _,
-            ext_len: _,
+            ruling: _,
+            reply: _,
+            count: _,
+            end: _,
+            first_word: _,
+            word_count: _,
+            first_arg: _,
+            arg_count: _,
         } = self;
     }
 }
 
-/// Stored entries. What an entry needs is a row, as many bytes as the numbers of its copy, its reply and its arguments have, and the units of its
-/// strings. Contracts see the entries and the room beside them.
+/// Stored entries. Contracts see the entries and the room beside them.
 pub(crate) struct EntryStore {
-    pub(crate) rows: Vec<EntryRow>,
-    pub(crate) bytes: Vec<u8>,
-    pub(crate) units: Vec<u16>,
+    rows: Vec<EntryRow>,
+    words: Vec<u64>,
+    args: Vec<ArgRow>,
+    units: Vec<u16>,
 }
 
 impl Drop for EntryStore {
     fn drop(self) {
         let EntryStore {
             rows: _,
-            bytes: _,
+            words: _,
+            args: _,
             units: _,
         } = self;
     }
@@ -80,46 +70,25 @@ impl Drop for EntryStore {
 impl Model for EntryStore {
     ghost use Rattle.std.specs.Prelude.{map, vec_len, vec_capacity};
     ghost use Rattle.std.specs.List.{All};
-    ghost use Rattle.sb_book.specs.Stores.{IsCut, StoreAt, stored_entry};
+    ghost use Rattle.sb_book.specs.Stores.{IsCut, StoreAt, buffers, stored_entry};
 
     ghost Value = { StoreAt };
 
     ghost view = { λ s. record {
-      entries = map (stored_entry s.bytes.items s.units.items) s.rows.items;
+      entries = map (stored_entry (buffers s.words.items s.args.items s.units.items)) s.rows.items;
       room = record {
         rows = vec_len s.rows;
         rows_capacity = vec_capacity s.rows;
-        bytes = vec_len s.bytes;
-        bytes_capacity = vec_capacity s.bytes;
+        words = vec_len s.words;
+        words_capacity = vec_capacity s.words;
+        args = vec_len s.args;
+        args_capacity = vec_capacity s.args;
         units = vec_len s.units;
         units_capacity = vec_capacity s.units;
       };
     } };
 
-    ghost invariant = { λ s. All (IsCut s.bytes.items s.units.items) s.rows.items };
-}
-
-// What the bytes of an entry begin with: the count and the end that were seen, and the numbers of the reply.
-fn head_of(taken: &BlockCopy, reply: &Reply) -> [u64; 6]
-    ensures { result ≡ head_of taken.now reply.now }
-{
-    [
-        taken.count_seen(),
-        taken.end_seen(),
-        reply.mark,
-        reply.outcome,
-        reply.status,
-        reply.handle,
-    ]
-}
-
-// The most bytes of an entry with these arguments, if that is a number of 64 bits.
-fn most_bytes(args: &[Arg]) -> Option<usize>
-    ensures { IfSome result (λ most. most ≡ most_entry_bytes + 20 * length args.now) }
-{
-    args.len()
-        .checked_mul(MOST_ARG_BYTES)?
-        .checked_add(MOST_ENTRY_BYTES)
+    ghost invariant = { λ s. All (IsCut (buffers s.words.items s.args.items s.units.items)) s.rows.items };
 }
 
 impl EntryStore {
@@ -129,23 +98,10 @@ impl EntryStore {
     {
         EntryStore {
             rows: Vec::new(alloc),
-            bytes: Vec::new(alloc),
+            words: Vec::new(alloc),
+            args: Vec::new(alloc),
             units: Vec::new(alloc),
         }
-    }
-
-    // Makes room for many entries once there is none for one more, so that they are seldom moved to larger buffers. If there is no memory for
-    // many, entries get their room one by one.
-    fn reserve_many(&mut self)
-        ensures { self.new.entries ≡ self.old.entries }
-    {
-        let count = self.rows.len();
-        if count < self.rows.capacity() {
-            return;
-        }
-        let many = count.saturating_mul(3).saturating_add(MANY_ENTRIES);
-        let _rows = self.rows.reserve(many);
-        let _bytes = self.bytes.reserve(many.saturating_mul(ENTRY_BYTES));
     }
 
     /// Makes room for one more entry, with these arguments. Whatever the result, the entries stay.
@@ -157,18 +113,16 @@ impl EntryStore {
         ensures entries { self.new.entries ≡ self.old.entries }
         ensures room { OnOk result (is_room args.now self.new.room ≡ true) }
     {
-        let (Some(bytes), Some(units)) = (most_bytes(args), unit_count(args)) else {
-            return Err(NoMemory);
-        };
-        self.reserve_many();
+        let units = unit_count(args).ok_or(NoMemory)?;
         self.rows.reserve(1)?;
-        self.bytes.reserve(bytes)?;
+        self.words.reserve(MOST_WORDS as usize)?;
+        self.args.reserve(args.len())?;
         self.units.reserve(units)?;
         Ok(())
     }
 
     /// Appends an entry, for which there must be room. Does not allocate.
-    #[tactic(auto, using(crate::proofs::Storing::room_for_row, crate::proofs::Storing::room_for_bytes, crate::proofs::Storing::room_for_units))]
+    #[tactic(auto, using(crate::proofs::Storing::room_for_row, crate::proofs::Storing::room_for_words, crate::proofs::Storing::room_for_args, crate::proofs::Storing::room_for_units))]
     pub(crate) fn push_reserved(
         &mut self,
         target: u32,
@@ -181,23 +135,21 @@ impl EntryStore {
         ensures entries { self.new.entries ≡ self.old.entries ++ entry_with target channel taken.now decision.now reply.now ∷ [] }
     {
         let copy = taken.words();
-        let ext = reply.ext.as_slice();
         let args = decision.args();
         let row = EntryRow {
-            first: self.bytes.len(),
-            first_unit: self.units.len(),
-            ruling: decision.ruling(),
             target,
             channel,
-            own_mark: reply.mark == taken.mark(),
-            len: copy.len() as u8,
-            ext_len: ext.len() as u8,
+            ruling: decision.ruling(),
+            reply: reply.copy(),
+            count: taken.count_seen(),
+            end: taken.end_seen(),
+            first_word: self.words.len(),
+            word_count: copy.len(),
+            first_arg: self.args.len(),
+            arg_count: args.len(),
         };
-        put_numbers(&mut self.bytes, &head_of(taken, reply));
-        put_numbers(&mut self.bytes, ext);
-        put_numbers(&mut self.bytes, &[args.len() as u64]);
-        put_args(&mut self.bytes, &mut self.units, args);
-        put_numbers(&mut self.bytes, copy);
+        let _fits = self.words.extend_from_slice(copy);
+        put_args(&mut self.args, &mut self.units, args);
         self.rows.push_reserved(row);
     }
 
@@ -216,7 +168,8 @@ impl EntryStore {
     {
         EntrySlice {
             rows: &self.rows,
-            bytes: &self.bytes,
+            words: &self.words,
+            args: &self.args,
             units: &self.units,
         }
     }

@@ -1,132 +1,44 @@
 // An entry, borrowed from those that store it.
-ghost use Rattle.std.specs.Prelude.{◌≡◌, ◌≤◌, length, slice_index, true};
+ghost use Rattle.std.specs.Prelude.{◌≡◌, ◌≤◌, length, true};
 ghost use Rattle.sb_block.specs.Copies.{is_copy, mark_of};
 ghost use Rattle.sb_block.specs.Layout.{most_words};
-ghost use Rattle.sb_book.specs.Packing.{numbers_in};
 ghost use Rattle.sb_book.specs.Rulings.{args_of, decision_with, ruling_of};
-ghost use Rattle.sb_book.specs.StoredArgs.{after_args, args_at};
-ghost use Rattle.sb_book.specs.Stores.{after_ext, after_handle, reply_in};
 
-use crate::packing::{after_numbers, take_number, take_numbers};
 use crate::rulings::Ruling;
-use crate::stored_args::{StoredArgs, after_args};
+use crate::stored_args::{ArgRow, StoredArgs};
 use crate::stores::EntryRow;
 use sb_block::{BlockCopy, Words};
-use sb_call::{Extended, Reply};
+use sb_call::Reply;
 use std::marker::Model;
 
 /// An entry that is borrowed from those that store it. Contracts see the entry.
 pub struct EntryView<'a> {
     pub(crate) row: &'a EntryRow,
-    // From where the bytes of the row begin.
-    pub(crate) bytes: &'a [u8],
-    // From where the units of its strings begin.
+    pub(crate) words: &'a [u64],
+    pub(crate) args: &'a [ArgRow],
     pub(crate) units: &'a [u16],
-}
-
-/// What is read of an entry at once.
-#[derive(Drop)]
-pub struct EntryParts<'a> {
-    /// The caller's mark: word 1 of the copy, or 0 if the copy is empty.
-    pub mark: u64,
-    /// What was replied.
-    pub reply: Reply,
-    /// The arguments that were granted. Only a call that was performed has any.
-    pub args: StoredArgs<'a>,
 }
 
 impl<'a> Drop for EntryView<'a> {
     fn drop(self) {
         let EntryView {
             row: _,
-            bytes: _,
+            words: _,
+            args: _,
             units: _,
         } = self;
     }
 }
 
 impl<'a> Model for EntryView<'a> {
-    ghost use Rattle.std.specs.Prelude.{◌≡◌, ◌≤◌, true};
-    ghost use Rattle.sb_block.specs.Copies.{is_copy, mark_of};
-    ghost use Rattle.sb_block.specs.Layout.{most_words};
-    ghost use Rattle.sb_book.specs.Stores.{copy_in, reply_in, row_entry};
+    ghost use Rattle.sb_book.specs.Stores.{IsCut, buffers, stored_entry};
     ghost use Rattle.sb_book.specs.declared.entries.Entry.{Entry};
 
     ghost Value = { Entry };
 
-    ghost view = { λ v. row_entry v.row.now v.bytes.now v.units.now };
+    ghost view = { λ v. stored_entry (buffers v.words.now v.args.now v.units.now) v.row.now };
 
-    ghost invariant = { λ v. (is_copy (copy_in v.row.now v.bytes.now) ≡ true) × (v.row.now.len ≤ most_words) × (v.row.now.ext_len ≤ 7)
-        × (v.row.now.own_mark ≡ true → mark_of (copy_in v.row.now v.bytes.now) ≡ (reply_in v.row.now v.bytes.now).mark) };
-}
-
-// The bytes of an entry after the numbers with which they begin.
-fn after_head(bytes: &[u8]) -> &[u8]
-    ensures { result.now ≡ after_handle bytes.now }
-{
-    after_numbers(bytes, 6)
-}
-
-// The bytes of an entry after the extended words of its reply.
-fn after_ext<'a>(row: &EntryRow, bytes: &'a [u8]) -> &'a [u8]
-    ensures { result.now ≡ after_ext row.now bytes.now }
-{
-    after_numbers(after_head(bytes), usize::from(row.ext_len))
-}
-
-// The bytes of the words of a row's copy.
-fn word_bytes<'a>(row: &EntryRow, bytes: &'a [u8]) -> &'a [u8]
-    ensures { result.now ≡ after_args (after_ext row.now bytes.now) }
-{
-    after_args(after_ext(row, bytes))
-}
-
-// The arguments that begin there.
-fn granted<'a>(bytes: &'a [u8], units: &'a [u16]) -> StoredArgs<'a>
-    ensures { result ≡ args_at bytes.now units.now }
-{
-    let (count, bytes) = take_number(bytes);
-    StoredArgs {
-        count: count as usize,
-        bytes,
-        units,
-    }
-}
-
-// The second word of the copy of a row, whose words begin there, or 0 if it has fewer.
-#[tactic(auto, using(crate::proofs::PackedNumbers::second_word, crate::proofs::PackedNumbers::no_second_word))]
-fn second_word(row: &EntryRow, words: &[u8]) -> u64
-    ensures { result ≡ slice_index (numbers_in row.now.len words.now) 1 }
-{
-    if row.len < 2 {
-        return 0;
-    }
-    let (_, rest) = take_number(words);
-    let (word, _) = take_number(rest);
-    word
-}
-
-// What was replied in the entry of a row whose bytes begin there, and the bytes after that.
-fn reply_and_rest<'a>(row: &EntryRow, bytes: &'a [u8]) -> (Reply, &'a [u8])
-    requires few { row.now.ext_len ≤ 7 }
-    ensures reply { result.0 ≡ reply_in row.now bytes.now }
-    ensures rest { result.1.now ≡ after_ext row.now bytes.now }
-{
-    let (_, rest) = take_number(bytes);
-    let (_, rest) = take_number(rest);
-    let (mark, rest) = take_number(rest);
-    let (outcome, rest) = take_number(rest);
-    let (status, rest) = take_number(rest);
-    let (handle, rest) = take_number(rest);
-    let (ext, rest) = take_numbers(rest, usize::from(row.ext_len));
-    let reply = Reply {
-        mark,
-        outcome,
-        status,
-        handle,
-        ext: Extended::new(ext),
-    };
-    (reply, rest)
+    ghost invariant = { λ v. IsCut (buffers v.words.now v.args.now v.units.now) v.row.now };
 }
 
 impl<'a> EntryView<'a> {
@@ -148,41 +60,44 @@ impl<'a> EntryView<'a> {
     pub fn count_seen(&self) -> u64
         ensures { result ≡ self.now.taken.count_seen }
     {
-        let (count, _) = take_number(self.bytes);
-        count
+        self.row.count
     }
 
     /// The end, in words, that was loaded before the copy, or 0 if it was not loaded.
     pub fn end_seen(&self) -> u64
         ensures { result ≡ self.now.taken.end_seen }
     {
-        let (_, rest) = take_number(self.bytes);
-        let (end, _) = take_number(rest);
-        end
+        self.row.end
     }
 
-    /// The words of the copy, at most 64. Does not allocate.
-    pub fn words(&self) -> Words
-        ensures value { result ≡ self.now.taken.words }
+    /// The words of the copy, at most 64.
+    pub fn words(&self) -> &'a [u64]
+        ensures value { result.now ≡ self.now.taken.words }
+        ensures most { length result.now ≤ most_words }
         ensures rule { is_copy self.now.taken ≡ true }
     {
-        let bytes = word_bytes(self.row, self.bytes);
-        let (words, _) = take_numbers(bytes, usize::from(self.row.len));
-        Words::new(words)
+        let (_, words) = self.words.split_at(self.row.first_word);
+        let (words, _) = words.split_at(self.row.word_count);
+        words
     }
 
     /// The caller's mark: word 1 of the copy, or 0 if the copy is empty.
     pub fn mark(&self) -> u64
         ensures { result ≡ mark_of self.now.taken }
     {
-        second_word(self.row, word_bytes(self.row, self.bytes))
+        match self.words() {
+            [_, mark, ..] => *mark,
+            _ => 0,
+        }
     }
 
     /// The copy that was taken of the block. Does not allocate.
     pub fn taken(&self) -> BlockCopy
         ensures { result ≡ self.now.taken }
     {
-        BlockCopy::of(self.count_seen(), self.end_seen(), self.words()).unwrap()
+        let mut words = Words::empty();
+        words.extend(self.words());
+        BlockCopy::of(self.row.count, self.row.end, words).unwrap()
     }
 
     /// What was decided on the copy, without the arguments.
@@ -192,31 +107,29 @@ impl<'a> EntryView<'a> {
         self.row.ruling
     }
 
-    /// What was replied. Does not allocate.
-    pub fn reply(&self) -> Reply
-        ensures { result ≡ self.now.reply }
+    /// The arguments that were granted. Only a call that was performed has any.
+    pub fn args(&self) -> StoredArgs<'a>
+        ensures args { result ≡ args_of self.now.decision }
+        ensures decision { decision_with (ruling_of self.now.decision) result ≡ self.now.decision }
     {
-        let (reply, _) = reply_and_rest(self.row, self.bytes);
-        reply
+        if !matches!(self.row.ruling, Ruling::Performed { .. }) {
+            return StoredArgs {
+                rows: &[],
+                units: &[],
+            };
+        }
+        let (_, rows) = self.args.split_at(self.row.first_arg);
+        let (rows, _) = rows.split_at(self.row.arg_count);
+        StoredArgs {
+            rows,
+            units: self.units,
+        }
     }
 
-    /// The mark, the reply and the arguments, from one reading of the entry's bytes. Does not allocate.
-    pub fn parts(&self) -> EntryParts<'a>
-        ensures mark { result.mark ≡ mark_of self.now.taken }
-        ensures reply { result.reply ≡ self.now.reply }
-        ensures args { result.args ≡ args_of self.now.decision }
-        ensures decision { decision_with (ruling_of self.now.decision) result.args ≡ self.now.decision }
+    /// What was replied.
+    pub fn reply(&self) -> &'a Reply
+        ensures { result.now ≡ self.now.reply }
     {
-        let (reply, rest) = reply_and_rest(self.row, self.bytes);
-        let mark = if self.row.own_mark {
-            reply.mark
-        } else {
-            second_word(self.row, after_args(rest))
-        };
-        let args = match self.row.ruling {
-            Ruling::Performed { .. } => granted(rest, self.units),
-            Ruling::Refused(_) | Ruling::Denied { .. } | Ruling::Faked { .. } => StoredArgs::none(),
-        };
-        EntryParts { mark, reply, args }
+        &self.row.reply
     }
 }
