@@ -1,10 +1,9 @@
 // The handles of each object by what they do and do not share, so that a conflict is found without a look at all of them.
-ghost use Rattle.std.specs.Prelude.{◌≡◌, ℕ, Bool, Option, true, false, is_some, OnOk};
+ghost use Rattle.std.specs.Prelude.{◌≡◌, ◌&&◌, ℕ, None, true, false, is_some, OnOk};
 ghost use Rattle.std.specs.BTreeMap.{get, is_at};
 ghost use Rattle.sb_handles.specs.Shares.{takes_part, exceeds, conflicts};
 ghost use Rattle.sb_base.specs.Orders.{by_pair};
-ghost use Rattle.sb_handles.specs.Sets.{HasShare, HasShares, IsLowest, conflicts_by, is_exceeding, is_met, is_unshared, lower_of};
-ghost use Rattle.sb_handles.specs.declared.objects.Share.{Share};
+ghost use Rattle.sb_handles.specs.Sets.{HasShares, IsLowest, IsWithin, KeepsOthers, conflicts_by, is_exceeding, is_met, is_unshared, lower_of, membership_in, membership_of};
 
 use crate::masks::{Access, Sharing};
 use crate::objects::Share;
@@ -58,13 +57,24 @@ fn conflicts_at(
 
 // Puts a handle of an object into a set, if it belongs there.
 fn note(set: &mut BTreeMap<(u64, u64), ()>, key: (u64, u64), belongs: bool) -> Result<(), NoMemory>
-    ensures kept { (q : ℕ × ℕ) → is_some (get by_pair set.old q) ≡ true → is_some (get by_pair set.new q) ≡ true }
+    ensures others { (q : ℕ × ℕ) → is_at (by_pair key) q ≡ false → is_some (get by_pair set.new q) ≡ is_some (get by_pair set.old q) }
+    ensures kept { is_some (get by_pair set.old key) ≡ true → is_some (get by_pair set.new key) ≡ true }
     ensures there { OnOk result (belongs ≡ true → is_some (get by_pair set.new key) ≡ true) }
 {
     if belongs {
         set.insert(key, ())?;
     }
     Ok(())
+}
+
+// Takes a handle of an object out of a set, if it does not belong there.
+fn trim(set: &mut BTreeMap<(u64, u64), ()>, key: (u64, u64), belongs: bool)
+    ensures others { (q : ℕ × ℕ) → is_at (by_pair key) q ≡ false → is_some (get by_pair set.new q) ≡ is_some (get by_pair set.old q) }
+    ensures there { is_some (get by_pair set.new key) ≡ (belongs && is_some (get by_pair set.old key)) }
+{
+    if !belongs {
+        set.remove(&key);
+    }
 }
 
 // The lowest handle of an object in a set with which a new access conflicts. None if the set is not to be searched.
@@ -100,8 +110,44 @@ fn lower(a: Option<u64>, b: Option<u64>) -> Option<u64>
     }
 }
 
-// The handles that take part in sharing, each by its object: in the sets of those that read, write and delete, and of those
-// that do not share reading, writing and deleting. A set may have more handles than these: a caller looks at the share.
+// The sets that have a handle, or those to which it belongs.
+#[derive(Clone, Copy)]
+pub(crate) struct Membership {
+    reading: bool,
+    writing: bool,
+    deleting: bool,
+    unread: bool,
+    unwritten: bool,
+    undeleted: bool,
+}
+
+// The sets to which a handle belongs by its share: none if it is not open.
+pub(crate) fn membership_of(share: Option<Share>) -> Membership
+    ensures { result ≡ membership_of share }
+{
+    let Some(Share { access, sharing }) = share else {
+        return Membership {
+            reading: false,
+            writing: false,
+            deleting: false,
+            unread: false,
+            unwritten: false,
+            undeleted: false,
+        };
+    };
+    let part = takes_part(access);
+    Membership {
+        reading: access.intersects(Access::READS),
+        writing: access.intersects(Access::WRITES),
+        deleting: access.intersects(Access::DELETES),
+        unread: part && !sharing.intersects(Sharing::READ),
+        unwritten: part && !sharing.intersects(Sharing::WRITE),
+        undeleted: part && !sharing.intersects(Sharing::DELETE),
+    }
+}
+
+// The open handles that take part in sharing, each by its object: in the sets of those that read, write and delete, and of those
+// that do not share reading, writing and deleting.
 pub(crate) struct Sets {
     reading: BTreeMap<(u64, u64), ()>,
     writing: BTreeMap<(u64, u64), ()>,
@@ -126,7 +172,10 @@ impl Drop for Sets {
 }
 
 impl Sets {
-    pub(crate) fn new(alloc: Global) -> Sets {
+    // No handles.
+    pub(crate) fn new(alloc: Global) -> Sets
+        ensures { (key : ℕ × ℕ) → membership_in result key ≡ membership_of None }
+    {
         Sets {
             reading: BTreeMap::new(alloc),
             writing: BTreeMap::new(alloc),
@@ -137,44 +186,33 @@ impl Sets {
         }
     }
 
-    // Puts a handle of an object into the sets of its share.
-    pub(crate) fn note(&mut self, key: (u64, u64), share: Share) -> Result<(), NoMemory>
-        ensures kept { (q : ℕ × ℕ) (other : Share) → HasShare self.old q other → HasShare self.new q other }
-        ensures there { OnOk result (HasShare self.new key share) }
+    // Puts a handle of an object into the sets to which it belongs. If there is no memory, it may be in some of them.
+    pub(crate) fn note(&mut self, key: (u64, u64), belongs: Membership) -> Result<(), NoMemory>
+        ensures others { KeepsOthers self.old self.new key }
+        ensures kept { IsWithin (membership_in self.old key) (membership_in self.new key) }
+        ensures there { OnOk result (IsWithin belongs (membership_in self.new key)) }
     {
-        let Share { access, sharing } = share;
-        let part = takes_part(access);
-        note(&mut self.reading, key, access.intersects(Access::READS))?;
-        note(&mut self.writing, key, access.intersects(Access::WRITES))?;
-        note(&mut self.deleting, key, access.intersects(Access::DELETES))?;
-        note(
-            &mut self.unread,
-            key,
-            part && !sharing.intersects(Sharing::READ),
-        )?;
-        note(
-            &mut self.unwritten,
-            key,
-            part && !sharing.intersects(Sharing::WRITE),
-        )?;
-        note(
-            &mut self.undeleted,
-            key,
-            part && !sharing.intersects(Sharing::DELETE),
-        )?;
+        note(&mut self.reading, key, belongs.reading)?;
+        note(&mut self.writing, key, belongs.writing)?;
+        note(&mut self.deleting, key, belongs.deleting)?;
+        note(&mut self.unread, key, belongs.unread)?;
+        note(&mut self.unwritten, key, belongs.unwritten)?;
+        note(&mut self.undeleted, key, belongs.undeleted)?;
         Ok(())
     }
 
-    // Takes a handle of an object out of all sets.
-    pub(crate) fn forget(&mut self, key: (u64, u64))
-        ensures { (q : ℕ × ℕ) (share : Share) → is_at (by_pair key) q ≡ false → HasShare self.old q share → HasShare self.new q share }
+    // Takes a handle of an object out of the sets to which it does not belong.
+    pub(crate) fn trim(&mut self, key: (u64, u64), belongs: Membership)
+        requires { IsWithin belongs (membership_in self.old key) }
+        ensures others { KeepsOthers self.old self.new key }
+        ensures exact { membership_in self.new key ≡ belongs }
     {
-        self.reading.remove(&key);
-        self.writing.remove(&key);
-        self.deleting.remove(&key);
-        self.unread.remove(&key);
-        self.unwritten.remove(&key);
-        self.undeleted.remove(&key);
+        trim(&mut self.reading, key, belongs.reading);
+        trim(&mut self.writing, key, belongs.writing);
+        trim(&mut self.deleting, key, belongs.deleting);
+        trim(&mut self.unread, key, belongs.unread);
+        trim(&mut self.unwritten, key, belongs.unwritten);
+        trim(&mut self.undeleted, key, belongs.undeleted);
     }
 
     // The lowest handle of an object that does not share what a new access does.

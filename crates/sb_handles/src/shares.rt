@@ -1,10 +1,13 @@
 // Which accesses to one object may be open at the same time.
-ghost use Rattle.std.specs.Prelude.{◌≡◌, [], OnOk, OnErr};
+ghost use Rattle.std.specs.Prelude.{◌≡◌, ℕ, [], false, OnOk, OnErr};
+ghost use Rattle.std.specs.BTreeMap.{get, insert_entry, is_at};
+ghost use Rattle.sb_base.specs.Orders.{by_pair};
+ghost use Rattle.sb_handles.specs.Sets.{IsWithin, KeepsOthers, membership_in, membership_of};
 ghost use Rattle.sb_handles.specs.Shares.{SharesRise, conflict_of, opened, left_on};
 
 use crate::masks::{Access, Sharing};
 use crate::objects::Share;
-use crate::sets::Sets;
+use crate::sets::{Sets, membership_of};
 use sb_base::NoMemory;
 use std::alloc::Global;
 use std::collections::BTreeMap;
@@ -18,7 +21,7 @@ use std::marker::Model;
 pub struct ShareTable {
     // By object and handle.
     shares: BTreeMap<(u64, u64), Share>,
-    // The same handles by what they do and do not share.
+    // The same handles, and no others, by what they do and do not share.
     sets: Sets,
 }
 
@@ -40,6 +43,25 @@ impl Model for ShareTable {
     ghost view = { λ t. t.shares.entries };
 
     ghost invariant = { λ t. HasShares (get by_pair t.shares) t.sets };
+}
+
+// Enters the share of a handle. If there is no memory, sets may have the handle to which it does not belong.
+fn enter(
+    shares: &mut BTreeMap<(u64, u64), Share>,
+    sets: &mut Sets,
+    key: (u64, u64),
+    share: Share,
+) -> Result<(), NoMemory>
+    requires listed { membership_in sets.old key ≡ membership_of (get by_pair shares.old key) }
+    ensures ok { OnOk result (shares.new.entries ≡ insert_entry by_pair shares.old.entries key share) }
+    ensures err { OnErr result (shares.new.entries ≡ shares.old.entries) }
+    ensures others { (q : ℕ × ℕ) → is_at (by_pair key) q ≡ false → get by_pair shares.new q ≡ get by_pair shares.old q }
+    ensures sets { KeepsOthers sets.old sets.new key }
+    ensures listed { IsWithin (membership_of (get by_pair shares.new key)) (membership_in sets.new key) }
+{
+    sets.note(key, membership_of(Some(share)))?;
+    shares.insert(key, share)?;
+    Ok(())
 }
 
 impl ShareTable {
@@ -78,18 +100,21 @@ impl ShareTable {
         ensures ok { OnOk result (self.new ≡ opened self.old object handle (record { access = access; sharing = sharing })) }
         ensures err { OnErr result (self.new ≡ self.old) }
     {
+        let key = (object, handle);
         let share = Share { access, sharing };
-        self.sets.note((object, handle), share)?;
-        self.shares.insert((object, handle), share)?;
-        Ok(())
+        let entered = enter(&mut self.shares, &mut self.sets, key, share);
+        let now = self.shares.get(&key).copied();
+        self.sets.trim(key, membership_of(now));
+        entered
     }
 
     /// Takes out the share that a handle has of an object, if it has one.
     pub fn leave(&mut self, object: u64, handle: u64)
         ensures { self.new ≡ left_on self.old object handle }
     {
-        self.shares.remove(&(object, handle));
-        self.sets.forget((object, handle));
+        let key = (object, handle);
+        self.shares.remove(&key);
+        self.sets.trim(key, membership_of(None));
     }
 
     /// Establishes for a proof that the shares rise strictly, by object and then by handle. It does nothing.

@@ -4,6 +4,7 @@ pub mod Changes
 pub mod DirectoryLaws
 pub mod EntryLemmas
 pub mod FoldLemmas
+pub mod FreeNumbers
 pub mod Hanging
 pub mod IndexLemmas
 pub mod KeyLemmas

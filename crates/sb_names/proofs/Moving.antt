@@ -1,41 +1,61 @@
 -- A node that gets another component and directory: the index has it under its new hash, and each row has its new name.
-use Rattle.std.proofs.Common.{◌≡◌, ◌≢◌, ◌==◌, ℕ, Bool, true, false, cond, refl, sym, subst, ◌∙◌, ap, List, ◌∷◌, ◌++◌, map}
+use Rattle.std.proofs.Common.{◌≡◌, ◌≢◌, ◌==◌, ℕ, Bool, true, false, cond, refl, sym, subst, ◌∙◌, ap, arith, List, ◌∷◌, ◌++◌, map}
 use Rattle.std.proofs.lemmas.Bool.{false≢true}
-use Rattle.std.specs.Prelude.{Option, Some, None, is_some, ◌&&◌}
+use Rattle.std.proofs.lemmas.Bool.Decides.{nat_tests}
+use Rattle.std.specs.Prelude.{Option, Some, None, is_some, not, ◌&&◌, ◌||◌}
 use Rattle.std.specs.BTreeMap.{BTreeMap, IsUnchanged, get, is_at}
 use Rattle.std.specs.Map.{lookup}
 use Rattle.sb_arena.specs.Forests.{HasLiveLinks, IsLive, IsShallow, ancestor, value_at}
 use Rattle.sb_names.specs.Hashes.{hash_of}
 use Rattle.sb_names.specs.Keys.{key_of}
-use Rattle.sb_names.specs.Nodes.{Nodes, HasNames, IsApart, IsChanged, IsIndexed, KeepsEntries, KeepsRows, name_of, rows_of}
+use Rattle.sb_names.specs.Nodes.{Nodes, HasNames, IsApart, IsChanged, IsIndexed, KeepsRows, MovesEntry, has_entry, hash_at, key_at, key_by, name_of, rows_of}
 use Rattle.sb_base.specs.Orders.{by_pair}
 use Rattle.sb_names.specs.Renames.{collected, renamed_key}
 use Rattle.sb_names.specs.declared.nodes.NameNode.{NameNode}
-use Rattle.sb_names.proofs.Changes.{indexed_changed, same_of}
+use Rattle.sb_names.proofs.Changes.{indexed_changed, parent_here, value_here}
 use Rattle.sb_names.proofs.IndexLemmas.{same_pair}
 use Rattle.sb_names.proofs.PutLemmas.{other_pair, own_pair}
 use Rattle.sb_names.proofs.RenameLemmas.{live_after, name_after, rows_renamed}
 
--- a node that is put under another hash has that entry, and those of all other nodes are as before
-module _ {V : Type 0} (index index' : ℕ × ℕ → Option V) (u : V) (hash node old : ℕ)
-    (updates : (q : ℕ × ℕ) → index' q ≡ cond (is_at (by_pair (hash, node)) q) (Some u) (index q)) where
-  pub put_here : is_some (index' (hash, node)) ≡ true
-  put_here = ap is_some (updates (hash, node)) ∙ ap (λ b. is_some (cond b (Some u) (index (hash, node)))) (own_pair hash node)
+-- a node that is put under a hash, and taken out under its old one if that is another
+module _ {V : Type 0} (before after : List ((ℕ × ℕ) × V)) (u : V) (hash node old : ℕ)
+    (updates : (q : ℕ × ℕ) → lookup (is_at (by_pair q)) after ≡ cond (is_at (by_pair (hash, node)) q) (Some u) (lookup (is_at (by_pair q)) before)) where
+  pub stays_put : old ≡ hash → MovesEntry before after node old hash
+  stays_put same q =
+      ap is_some (updates q)
+      ∙ by (is_at (by_pair (hash, node)) q) (is_at (by_pair (old, node)) q) (ap (λ h. is_at (by_pair (h, node)) q) same) (lookup (is_at (by_pair q)) before)
+    where
+      by : (new old : Bool) → old ≡ new → (o : Option V) → is_some (cond new (Some u) o) ≡ (new || (not old && is_some o))
+      by true old e o = refl
+      by false false e o = refl
+      by false true e o = absurd (false≢true (sym e))
 
-  pub put_others : KeepsEntries index index' node
-  put_others q ne = updates q ∙ ap (λ b. cond b (Some u) (index q)) (other_pair hash node q ne)
+  pub is_moved : old ≢ hash → (last : List ((ℕ × ℕ) × V))
+      → ((q : ℕ × ℕ) → lookup (is_at (by_pair q)) last ≡ cond (is_at (by_pair (old, node)) q) None (lookup (is_at (by_pair q)) after))
+      → MovesEntry before last node old hash
+  is_moved apart last removes q =
+      ap is_some (removes q ∙ ap (cond (is_at (by_pair (old, node)) q) None) (updates q))
+      ∙ by (is_at (by_pair (hash, node)) q) (is_at (by_pair (old, node)) q) (not_both q.0 q.1) (lookup (is_at (by_pair q)) before)
+    where
+      not_both : (h n : ℕ) → is_at (by_pair (hash, node)) (h, n) ≡ true → is_at (by_pair (old, node)) (h, n) ≡ true → ⊥
+      not_both h n here there =
+          let one : hash ≡ h = grind (arith, nat_tests, same_pair hash node h n, here) in
+          let two : old ≡ h = grind (arith, nat_tests, same_pair old node h n, there) in
+          apart (two ∙ sym one)
 
-  -- and if the entry under the old hash is taken out
-  module _ (index'' : ℕ × ℕ → Option V) (removes : (q : ℕ × ℕ) → index'' q ≡ cond (is_at (by_pair (old, node)) q) None (index' q)) where
-    pub moved_here : old ≢ hash → is_some (index'' (hash, node)) ≡ true
-    moved_here apart = ap is_some (removes (hash, node)) ∙ ap (λ b. is_some (cond b None (index' (hash, node)))) (elsewhere (old == hash) refl) ∙ put_here
-      where
-        elsewhere : (b : Bool) → b ≡ (old == hash) → is_at (by_pair (old, node)) (hash, node) ≡ false
-        elsewhere true t = absurd (apart (same_of old hash t))
-        elsewhere false t = same_pair old node hash node ∙ ap (λ b. b && (node == node)) (sym t)
+      by : (new old : Bool) → (new ≡ true → old ≡ true → ⊥) → (o : Option V) → is_some (cond old None (cond new (Some u) o)) ≡ (new || (not old && is_some o))
+      by true true both o = absurd (both refl refl)
+      by true false both o = refl
+      by false true both o = refl
+      by false false both o = refl
 
-    pub moved_others : KeepsEntries index index'' node
-    moved_others q ne = removes q ∙ ap (λ b. cond b None (index' q)) (other_pair old node q ne) ∙ put_others q ne
+-- an entry that is moved is there, and those of other nodes stay
+module _ {V : Type 0} (before after : List ((ℕ × ℕ) × V)) (node old hash : ℕ) (moves : MovesEntry before after node old hash) where
+  moved_here : has_entry after (hash, node) ≡ true
+  moved_here = moves (hash, node) ∙ ap (λ b. b || (not (is_at (by_pair (old, node)) (hash, node)) && has_entry before (hash, node))) (own_pair hash node)
+
+  moved_others : (q : ℕ × ℕ) → q.1 ≢ node → has_entry before q ≡ true → has_entry after q ≡ true
+  moved_others q ne there = moves q ∙ rw (other_pair hash node q ne, other_pair old node q ne) there
 
 -- an index that is as it was serves as before
 pub same_index : {X : Type 0} (f : Nodes) (m n : BTreeMap (ℕ × ℕ) X) → IsUnchanged m n → IsIndexed (get by_pair m) f → IsIndexed (get by_pair n) f
@@ -58,12 +78,20 @@ object_by d (Some w) = w.object
 
 module _ (f f' : Nodes) (a : ℕ) (w : NameNode) (d : Option ℕ) (part : List ℕ) (changed : IsChanged f f' a (Some w) d) (is_part : w.part ≡ part)
     (live : IsLive f a) where
-  pub move_index : {V : Type 0} (index index' : ℕ × ℕ → Option V) (hash : ℕ) → IsIndexed index f → hash ≡ hash_of d (key_of part)
-      → is_some (index' (hash, a)) ≡ true → KeepsEntries index index' a → IsIndexed index' f'
-  move_index index index' hash indexed hashed here others =
-      indexed_changed f f' a (Some w) d changed index index' indexed (λ q ne there. ap is_some (others q ne) ∙ there)
-      (λ some. subst (λ h. is_some (index' (h, a)) ≡ true) (hashed ∙ ap (λ us. hash_of d (key_of us)) (sym is_part)) here)
+  pub move_index : {V : Type 0} (m n : BTreeMap (ℕ × ℕ) V) (old hash : ℕ) → IsIndexed (get by_pair m) f → hash ≡ hash_of d (key_of part)
+      → MovesEntry m.entries n.entries a old hash → IsIndexed (get by_pair n) f'
+  move_index m n old hash indexed hashed moves =
+      indexed_changed f f' a (Some w) d changed (get by_pair m) (get by_pair n) indexed (moved_others m.entries n.entries a old hash moves)
+      (λ some. subst (λ h. has_entry n.entries (h, a) ≡ true) (hashed ∙ ap (λ us. hash_of d (key_of us)) (sym is_part))
+      (moved_here m.entries n.entries a old hash moves))
       (λ now. indexed.1 a live)
+
+  -- and its new hash is that of its new directory and component
+  pub hash_after : hash_at f' a ≡ hash_of d (key_of part)
+  hash_after =
+      ap (λ o. hash_of o (key_at f' a)) (parent_here f f' a (Some w) d changed)
+      ∙ ap (λ v. hash_of d (key_by v)) (value_here f f' a (Some w) d changed)
+      ∙ ap (λ us. hash_of d (key_of us)) is_part
 
   module _ (names : HasNames f) (names' : HasNames f') (shallow : IsShallow f.rows) (shallow' : IsShallow f'.rows)
       (live_links : HasLiveLinks f) (live_links' : HasLiveLinks f') (apart : IsApart f a d) where

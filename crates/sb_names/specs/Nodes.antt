@@ -1,11 +1,13 @@
 -- The names of the nodes of a forest, and the rows that they represent. Each node has one component; its name is the path from the root.
-use Rattle.std.specs.Prelude.{◌≡◌, ◌≢◌, ◌<◌, ◌^◌, ℕ, Bool, true, false, zero, suc, List, [], ◌∷◌, ◌++◌, length, Option, None, Some, is_some, option_map, ◌==◌, ◌&&◌, ⊤, if◌then◌else◌}
-use Rattle.std.specs.BTreeMap.{insert_entry}
+use Rattle.std.specs.Prelude.{◌≡◌, ◌<◌, ◌^◌, ℕ, Bool, true, false, zero, suc, List, [], ◌∷◌, ◌++◌, length, Option, None, Some, is_some, option_map, ◌==◌, ◌&&◌, ◌||◌, not, ⊤, if◌then◌else◌}
+use Rattle.std.specs.BTreeMap.{insert_entry, is_at}
 use Rattle.std.specs.Cmp.Lexicographic.{slice_cmp}
+use Rattle.std.specs.Map.{lookup}
 use Rattle.std.specs.Ordering.{nat_cmp}
 use Rattle.sb_arena.specs.Forests.{Forest, IsAbove, IsLive, value_at, parent_of as node_parent, with_child}
 use Rattle.sb_arena.specs.declared.arena.NodeId.{NodeId}
 use Rattle.sb_base.specs.Names.{is_component}
+use Rattle.sb_base.specs.Orders.{by_pair}
 use Rattle.sb_names.specs.Keys.{key_of}
 use Rattle.sb_names.specs.Maps.{Rows, is_key}
 use Rattle.sb_names.specs.Hashes.{hash_of}
@@ -107,9 +109,18 @@ is_entry f q = is_some (value_at f q.1) && (q.0 == hash_of (node_parent f q.1) (
 abbrev pub IsIndexed : {V : Type 0} → (ℕ × ℕ → Option V) → Nodes → Type 0
 IsIndexed index f = ((q : ℕ × ℕ) → is_entry f q ≡ true → is_some (index q) ≡ true) × ((n : ℕ) → IsLive f n → n < 2 ^ 64)
 
--- an index has the entries of all nodes but one as before
-abbrev pub KeepsEntries : {V : Type 0} → (ℕ × ℕ → Option V) → (ℕ × ℕ → Option V) → ℕ → Type 0
-KeepsEntries index index' a = (q : ℕ × ℕ) → q.1 ≢ a → index' q ≡ index q
+-- the hash under which an index has a node
+abbrev pub hash_at : Nodes → ℕ → ℕ
+hash_at f n = hash_of (node_parent f n) (key_at f n)
+
+-- an index has the pair of a hash and a node
+abbrev pub has_entry : {V : Type 0} → List ((ℕ × ℕ) × V) → ℕ × ℕ → Bool
+has_entry entries q = is_some (lookup (is_at (by_pair q)) entries)
+
+-- a node leaves its old hash for another, and nothing else is put into the index or taken out
+abbrev pub MovesEntry : {V : Type 0} → List ((ℕ × ℕ) × V) → List ((ℕ × ℕ) × V) → ℕ → ℕ → ℕ → Type 0
+MovesEntry entries entries' node old new =
+    (q : ℕ × ℕ) → has_entry entries' q ≡ (is_at (by_pair (new, node)) q || (not (is_at (by_pair (old, node)) q) && has_entry entries q))
 
 -- one node alone has changed: it has this value, or none, and is in this directory
 pub record IsChanged (f f' : Nodes) (a : ℕ) (v : Option NameNode) (directory : Option ℕ) : Type 0 where

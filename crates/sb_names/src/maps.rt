@@ -1,5 +1,5 @@
 // A map from names, compared folded, to values.
-ghost use Rattle.std.specs.Prelude.{◌≡◌, [], None, IfSome, OnOk, OnErr};
+ghost use Rattle.std.specs.Prelude.{◌≡◌, [], None, OnOk, OnErr};
 ghost use Rattle.std.specs.BTreeMap.{IsUnchanged, get};
 ghost use Rattle.sb_names.specs.Entries.{AreHashed, IsKept, place_of, rows_in, value_by};
 ghost use Rattle.sb_names.specs.Hashes.{hash_of};
@@ -59,19 +59,16 @@ fn place<V: Copy>(
     None
 }
 
-// A number that no name with this hash has, or None if each is taken from the count of names on. While no name was removed,
-// the count itself is free, since each number is below the count that it was given at.
-fn free_number<V>(index: &BTreeMap<(u64, u64), (Wide, V)>, hash: u64) -> Option<u64>
-    ensures { IfSome result (λ number. get by_pair index.now (hash, number) ≡ None) }
+// A number that no name with this hash has: the first from the count of names on. While no name was removed, the count itself is
+// free, since each number is below the count that it was given at.
+fn free_number<V>(index: &BTreeMap<(u64, u64), (Wide, V)>, hash: u64) -> u64
+    ensures { get by_pair index.now (hash, result) ≡ None }
 {
     let mut number = index.len() as u64;
     while index.contains_key(&(hash, number)) {
-        if number == u64::MAX {
-            return None;
-        }
         number += 1;
     }
-    Some(number)
+    number
 }
 
 // Puts a value under a name that is not there.
@@ -90,9 +87,7 @@ fn add_row<V: Copy>(
     ensures rows { OnOk result (rows_in index.new.entries ≡ put (rows_in index.old.entries) name.now value) }
     ensures err { OnErr result (IsUnchanged index.old index.new) }
 {
-    let Some(number) = free_number(index, hash) else {
-        return Err(NoMemory);
-    };
+    let number = free_number(index, hash);
     index.insert((hash, number), (key, value))?;
     Ok(())
 }

@@ -1,13 +1,12 @@
 // What renames a name in a tree of linked nodes.
-ghost use Rattle.std.specs.Prelude.{◌≡◌, ◌++◌, ◌∷◌, true, false, Some, None, Ok, IfErr, OnOk, OnErr, is_some, map};
-ghost use Rattle.std.specs.BTreeMap.{IsUnchanged, get};
+ghost use Rattle.std.specs.Prelude.{◌≡◌, ◌++◌, ◌∷◌, true, false, Some, None, Ok, IfErr, OnOk, OnErr, map};
+ghost use Rattle.std.specs.BTreeMap.{IsUnchanged};
 ghost use Rattle.sb_arena.specs.Forests.{IsLive};
 ghost use Rattle.sb_base.specs.Names.{is_component, is_name_of};
 ghost use Rattle.sb_names.specs.Keys.{is_below, key_of, parent_of};
 ghost use Rattle.sb_names.specs.Maps.{found};
-ghost use Rattle.sb_base.specs.Orders.{by_pair};
 ghost use Rattle.sb_names.specs.Renames.{collected, renamed_key, renamed_rows, renamed_tree};
-ghost use Rattle.sb_names.specs.Nodes.{HasNoChild, IsApart, IsAt, IsChanged, IsThere, KeepsAllBut, KeepsEntries, KeepsOtherNodes, KeepsRows, name_of, number_of, rows_of};
+ghost use Rattle.sb_names.specs.Nodes.{HasNoChild, IsApart, IsAt, IsChanged, IsThere, KeepsAllBut, KeepsOtherNodes, KeepsRows, MovesEntry, hash_at, name_of, number_of, rows_of};
 
 use crate::hashes::{hash_at, hash_of};
 use crate::linked::{NameTree, last_component};
@@ -40,8 +39,7 @@ fn reindex(
     old_hash: u64,
     hash: u64,
 ) -> Result<(), NoMemory>
-    ensures here { OnOk result (is_some (get by_pair index.new (hash, node)) ≡ true) }
-    ensures others { OnOk result (KeepsEntries (get by_pair index.old) (get by_pair index.new) node) }
+    ensures moved { OnOk result (MovesEntry index.old.entries index.new.entries node old_hash hash) }
     ensures err { OnErr result (IsUnchanged index.old index.new) }
 {
     index.insert((hash, node), ())?;
@@ -68,6 +66,7 @@ impl NameTree {
         ensures rows { OnOk result (rows_of self.new.nodes ≡ collected (map (λ row. (renamed_key (name_of self.old.nodes (Some node.0)) (name_of self.old.nodes (number_of directory) ++ 92 ∷ key_of part.now) row.0, row.1)) (rows_of self.old.nodes))) }
         ensures kept { OnOk result (KeepsRows self.old.nodes self.new.nodes (name_of self.old.nodes (Some node.0)) (name_of self.old.nodes (number_of directory) ++ 92 ∷ key_of part.now)) }
         ensures others { OnOk result (KeepsOtherNodes self.old.nodes self.new.nodes node.0) }
+        ensures entry { OnOk result (MovesEntry self.old.index self.new.index node.0 (hash_at self.old.nodes node.0) (hash_at self.new.nodes node.0)) }
         ensures err { OnErr result (self.new.nodes ≡ self.old.nodes) }
     {
         self.establish_names();
@@ -84,7 +83,8 @@ impl NameTree {
     }
 
     /// Gives a name and all below it a new name, which is not there and does not lie below the old one, in its directory: with
-    /// the node of the old name and the directory of the new one, as `seek` gave them. Objects and nodes stay.
+    /// the node of the old name and the directory of the new one, as `seek` gave them. Objects and nodes stay, and the index has no
+    /// more entries than before.
     ///
     /// # Errors
     /// `NoMemory` if there is none for the new component; then nothing is changed.
@@ -104,6 +104,7 @@ impl NameTree {
         ensures rows { OnOk result (rows_of self.new.nodes ≡ renamed_rows (rows_of self.old.nodes) from.now to.now) }
         ensures kept { OnOk result (KeepsRows self.old.nodes self.new.nodes (key_of from.now) (key_of to.now)) }
         ensures others { OnOk result (KeepsAllBut self.old.nodes self.new.nodes (key_of from.now)) }
+        ensures entry { OnOk result (MovesEntry self.old.index self.new.index node.0 (hash_at self.old.nodes node.0) (hash_at self.new.nodes node.0)) }
         ensures err { OnErr result (self.new.nodes ≡ self.old.nodes) }
     {
         self.establish_names();

@@ -1,5 +1,9 @@
-use Rattle.std.proofs.Common.{◌-◌, ◌^◌}
+use Rattle.std.proofs.Common.{◌-◌, ◌^◌, length}
+use Rattle.sb_names.proofs.FreeNumbers.{IsReached}
 use Rattle.sb_names.proofs.maps.free_number.Given as goal
 
-abbrev pub decreases-loop-hash : goal.decreases-loop-hash
-decreases-loop-hash g l = 2 ^ 64 - l.number
+abbrev pub decreases-loop-number : goal.decreases-loop-number
+decreases-loop-number g l = 2 ^ 64 - l.number
+
+abbrev pub invariant-loop-number : goal.invariant-loop-number
+invariant-loop-number g l = IsReached l.hash (length l.index.entries) l.number l.index.entries

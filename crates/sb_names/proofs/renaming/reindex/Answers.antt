@@ -1,24 +1,14 @@
-use Rattle.std.proofs.Common.{rules, ◌≢◌}
-use Rattle.std.specs.BTreeMap.{get}
-use Rattle.sb_base.specs.Orders.{by_pair}
-use Rattle.sb_names.proofs.Moving.{moved_here, moved_others, put_here, put_others}
+use Rattle.std.proofs.Common.{rules, ◌≡◌, ◌≢◌}
+use Rattle.sb_names.proofs.Moving.{is_moved, stays_put}
 use Rattle.sb_names.proofs.renaming.reindex.Goals as goal
 
-pub returns-then-old_hash-hash-clause-here : goal.returns-then-old_hash-hash-clause-here
-returns-then-old_hash-hash-clause-here c =
-    put_here (get by_pair c.args.index.now) (get by_pair c.insert.new.self) _ c.args.hash c.args.node c.args.old_hash c.in_ok-insert.ensures.updates.0
+pub returns-then-old_hash-hash-clause-moved : goal.returns-then-old_hash-hash-clause-moved
+returns-then-old_hash-hash-clause-moved c =
+    let same : c.args.old_hash ≡ c.args.hash = search rules in
+    stays_put c.args.index.now.entries c.insert.new.self.entries _ c.args.hash c.args.node c.args.old_hash c.in_ok-insert.ensures.updates.0 same
 
-pub returns-then-old_hash-hash-clause-others : goal.returns-then-old_hash-hash-clause-others
-returns-then-old_hash-hash-clause-others c =
-    put_others (get by_pair c.args.index.now) (get by_pair c.insert.new.self) _ c.args.hash c.args.node c.args.old_hash c.in_ok-insert.ensures.updates.0
-
-pub returns-clause-here : goal.returns-clause-here
-returns-clause-here c =
+pub returns-clause-moved : goal.returns-clause-moved
+returns-clause-moved c =
     let apart : c.args.old_hash ≢ c.args.hash = search rules in
-    moved_here (get by_pair c.args.index.now) (get by_pair c.insert.new.self) _ c.args.hash c.args.node c.args.old_hash c.in_ok-insert.ensures.updates.0
-    (get by_pair c.remove.new.self) c.remove.ensures.updates.0 apart
-
-pub returns-clause-others : goal.returns-clause-others
-returns-clause-others c =
-    moved_others (get by_pair c.args.index.now) (get by_pair c.insert.new.self) _ c.args.hash c.args.node c.args.old_hash c.in_ok-insert.ensures.updates.0
-    (get by_pair c.remove.new.self) c.remove.ensures.updates.0
+    is_moved c.args.index.now.entries c.insert.new.self.entries _ c.args.hash c.args.node c.args.old_hash c.in_ok-insert.ensures.updates.0 apart
+    c.remove.new.self.entries c.remove.ensures.updates.0

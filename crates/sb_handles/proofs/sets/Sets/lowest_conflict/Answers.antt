@@ -12,6 +12,6 @@ returns c =
     subst (IsLowest p) (sym c.lower.ensures)
     (lowest_alike _ p _
     (λ n. listed_exactly c.args.self.now (c.args.object, n) c.args.access.0 c.args.sharing.0 (get by_pair c.args.shares.now (c.args.object, n))
-    (λ share e. c.requires.listed (c.args.object, n) share e))
+    (c.requires.listed (c.args.object, n)))
     (lowest_of_two (λ n. is_unshared c.args.self.now (c.args.object, n) c.args.access.0 (p n)) (λ n. is_exceeding c.args.self.now (c.args.object, n) c.args.sharing.0 (p n))
     c.lowest_unshared.result c.lowest_exceeding.result c.lowest_unshared.ensures c.lowest_exceeding.ensures))
