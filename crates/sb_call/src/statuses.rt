@@ -1,6 +1,6 @@
 // The status codes of Windows that services answer with, and the answers made of them.
 ghost use Rattle.std.specs.Prelude.{◌≡◌, [], ◌∷◌};
-ghost use Rattle.sb_call.specs.Statuses.{meets, refusal, granting};
+ghost use Rattle.sb_call.specs.Statuses.{refusal, granting};
 
 use crate::replies::{Answer, Extended};
 
@@ -81,11 +81,4 @@ impl Answer {
             ext,
         }
     }
-}
-
-/// Whether an access or a sharing has a bit of a mask.
-pub fn meets(bits: u64, mask: u64) -> bool
-    ensures { result ≡ meets bits mask }
-{
-    bits & mask != 0
 }

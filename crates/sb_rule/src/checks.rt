@@ -194,7 +194,7 @@ fn are_named_apart(policies: &[Policy]) -> bool
 }
 
 // Whether each of the policies is well made.
-pub(crate) fn each_well_made(policies: &[Policy]) -> bool
+fn each_well_made(policies: &[Policy]) -> bool
     ensures { result ≡ list_all is_well_made policies.now }
 {
     policies.iter().all(well_made)

@@ -26,7 +26,7 @@ pub use actions::Action;
 pub use cells::Cell;
 pub use checks::{all_well_made, is_for_readers, well_made};
 pub use conditions::{Cond, Conds, Numbers, Test};
-pub use judges::{Judge, PlainJudge};
+pub use judges::Judge;
 pub use laws::{
     appending_keeps_verdicts, bits_read_or_write, first_rule_decides, no_rule_where_none_holds,
     rules_without_conditions_decide,

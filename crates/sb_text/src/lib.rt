@@ -47,7 +47,7 @@ pub use refusals::{LineFault, TokenFault, WordFault};
 pub use sb_base::Refused;
 pub use spots::{Layout, Within, column_at};
 pub use steps::{
-    end_at, or_fails, or_fault, quoted_at, quoted_due, version_at, version_digit, word_at, word_due,
+    end_at, or_fails, quoted_at, quoted_due, version_at, version_digit, word_at, word_due,
 };
 pub use text_lines::TextLines;
 pub use text_parts::TextPart;

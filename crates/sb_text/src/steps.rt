@@ -2,7 +2,7 @@
 ghost use Rattle.std.specs.Prelude.{◌≡◌, ◌≤◌, true, IfOk};
 ghost use Rattle.std.specs.List.{list_all};
 ghost use Rattle.sb_base.specs.Refusals.{Gives};
-ghost use Rattle.sb_text.specs.Steps.{later, word_at, quoted_at, end_at, or_fault, or_fails, version_at, version_digit, ReadsAs};
+ghost use Rattle.sb_text.specs.Steps.{later, word_at, quoted_at, end_at, or_fails, version_at, version_digit, ReadsAs};
 ghost use Rattle.sb_text.specs.TokenLaws.{is_quoted_byte};
 
 use crate::refusals::TokenFault;
@@ -88,16 +88,6 @@ pub fn end_at<K: Drop>(extra: K, bad: K, tokens: &Tokens) -> Result<(), Refused<
         None => Ok(()),
         Some(Token::Word(_)) | Some(Token::Quoted(_)) => Err(tokens.fail(extra)),
         Some(Token::Bad) => Err(tokens.fail(bad)),
-    }
-}
-
-/// A value that is there, or this fault, without a place.
-pub fn or_fault<A: Drop, K: Drop>(kind: K, value: Option<A>) -> Result<A, Refused<K>>
-    ensures { Gives (or_fault kind value) result }
-{
-    match value {
-        Some(value) => Ok(value),
-        None => Err(Refused::Fault(kind)),
     }
 }
 
