@@ -9,11 +9,11 @@ use Rattle.sb_pool.specs.declared.protocol.PoolView.{PoolView}
 use Rattle.sb_pool.specs.declared.seats.PoolSeat.{PoolSeat}
 use Rattle.sb_pool.specs.Views.{times, fresh_view, counted, newcomer, IsLast}
 use Rattle.sb_pool.specs.Rule.{Drawn, IsMoment}
-use Rattle.sb_pool.specs.Pools.{PoolValue, seen, AreDivided, AreSeats, IsHome, IsGathering, AreAllHome}
+use Rattle.sb_pool.specs.Pools.{PoolValue, seen, AreDivided, AreSeats, IsHome, IsGathering, AreAllHome, IsCounted}
 use Rattle.sb_pool.proofs.Places.{length_snoc}
 use Rattle.sb_pool.proofs.Steps.{left_all, left_each}
 
-not_zero : (m : ℕ) → eqb (suc m) 0 ≡ false
+pub not_zero : (m : ℕ) → eqb (suc m) 0 ≡ false
 not_zero m = by (eqb (suc m) 0) refl
   where
     by : (b : Bool) → eqb (suc m) 0 ≡ b → eqb (suc m) 0 ≡ false
@@ -38,7 +38,7 @@ module _ {A : Type 0} where
   get_set_else (x ∷ xs) (suc i) zero a n = refl
   get_set_else (x ∷ xs) (suc i) (suc j) a n = get_set_else xs i j a (λ e. n (ap suc e))
 
-  get_snoc : (xs : List A) (y : A) (n : ℕ) (x : A) → slice_get (xs ++ y ∷ []) n ≡ Some x → (slice_get xs n ≡ Some x) ⊎ ((n ≡ length xs) × (y ≡ x))
+  pub get_snoc : (xs : List A) (y : A) (n : ℕ) (x : A) → slice_get (xs ++ y ∷ []) n ≡ Some x → (slice_get xs n ≡ Some x) ⊎ ((n ≡ length xs) × (y ≡ x))
   get_snoc [] y zero x e = inr (refl, ap (λ o. unwrap_or o y) e)
   get_snoc [] y (suc n) x e = absurd (false≢true (ap is_some e))
   get_snoc (z ∷ xs) y zero x e = inl e
@@ -137,15 +137,31 @@ module _ {W H : Type 0} (number : W → ℕ) (home : W → H) (homes : List H) w
 module _ {W H : Type 0} where
   -- the seats of a pool
   pub divided_seats : (pool : PoolValue) (first : PoolView H) (homes : List H) (count : Option ℕ) (seats : List (PoolSeat W H)) → first ≡ fresh_view 0 homes count
-      → length homes ≡ pool.size → AreDivided pool.table first.homes seats → AreSeats pool homes seats
-  divided_seats pool first homes count seats e size all n seat h =
+      → length homes ≡ pool.size → AreDivided pool.table first.homes seats
+      → ((n : ℕ) (seat : PoolSeat W H) → slice_get seats n ≡ Some seat → (seen seat).number ≡ n → (seen seat).out ≡ [] → (seen seat).taken ≡ [] → ((c : ℕ) → (seen seat).count ≡ Some c → c ≡ length seats) → IsCounted pool seat)
+      → AreSeats pool homes seats
+  divided_seats pool first homes count seats e size all placed n seat h =
       let same : first.homes ≡ homes = ap (λ (v : PoolView H). v.homes) e in
       let a = all n seat h in
       let k : seen seat ≡ fresh_view n homes (cond {A = Option ℕ} (eqb n 0) (Some (length seats)) None) =
       a.2 ∙ ap (λ l. fresh_view n l (cond {A = Option ℕ} (eqb n 0) (Some (length seats)) None)) same in
-      let count = ap (λ (v : PoolView H). cond {A = ℕ} (is_some v.count) pool.size 0) k in
-      ((a.0, a.1, ap (λ (v : PoolView H). v.live) k, ap (λ (v : PoolView H). length v.homes) k ∙ size, a.3 ∙ ap (λ (l : List H). cond {A = ℕ} (eqb n 0) (length l) 0) same ∙ ap (λ m. cond {A = ℕ} (eqb n 0) m 0) size ∙ kept (eqb n 0) (length seats) pool.size ∙ sym count), k)
+      let count = ap (λ (v : PoolView H). cond {A = ℕ} (is_some v.count) pool.size 0) k in (
+        (
+          a.0,
+          a.1,
+          ap (λ (v : PoolView H). v.live) k,
+          ap (λ (v : PoolView H). length v.homes) k ∙ size,
+          a.3 ∙ ap (λ (l : List H). cond {A = ℕ} (eqb n 0) (length l) 0) same ∙ ap (λ m. cond {A = ℕ} (eqb n 0) m 0) size ∙ kept (eqb n 0) (length seats) pool.size ∙ sym count,
+          placed n seat h (ap (λ (v : PoolView H). v.number) k) (ap (λ (v : PoolView H). v.out) k) (ap (λ (v : PoolView H). v.taken) k)
+              (λ c f. counts (eqb n 0) c (sym (ap (λ (v : PoolView H). v.count) k) ∙ f)),
+        ),
+        k,
+      )
     where
+      counts : (b : Bool) (c : ℕ) → cond {A = Option ℕ} b (Some (length seats)) None ≡ Some c → c ≡ length seats
+      counts true c f = sym (ap (λ o. unwrap_or o 0) f)
+      counts false c f = absurd (false≢true (ap is_some f))
+
       kept : (b : Bool) (m size : ℕ) → cond {A = ℕ} b size 0 ≡ cond {A = ℕ} (is_some (cond {A = Option ℕ} b (Some m) None)) size 0
       kept true m size = refl
       kept false m size = refl

@@ -4,3 +4,9 @@ pub mod Filling
 pub mod Gathering
 pub mod Places
 pub mod Steps
+pub mod Counted
+pub mod Happened
+pub mod Seating
+pub mod Placing
+pub mod Closing
+pub mod Rigid

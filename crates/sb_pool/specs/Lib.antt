@@ -1,3 +1,5 @@
+pub mod Counting
+pub mod Events
 pub mod Laws
 pub mod Pools
 pub mod Rooms

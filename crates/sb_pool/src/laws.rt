@@ -1,5 +1,5 @@
-// What the rule of the pool says at any moment.
-ghost use Rattle.sb_pool.specs.Laws.{IsOutOnce};
+// What the rules of the pool say at any moment.
+ghost use Rattle.sb_pool.specs.Laws.{AreLooksTrue, IsOutOnce};
 
 use crate::protocol::Numbered;
 
@@ -7,4 +7,10 @@ use crate::protocol::Numbered;
 /// nothing when it runs.
 pub fn establish_out_once<W: Numbered>()
     ensures { IsOutOnce W.number W.home }
+{}
+
+/// Establishes that a seat cannot tell that no work was in while one was: the rule leaves it no other history. It does nothing
+/// when it runs.
+pub fn establish_looks_are_true()
+    ensures { AreLooksTrue }
 {}

@@ -8,7 +8,7 @@ pub unreachable-requires : goal.unreachable-requires
 unreachable-requires g c =
     let none = where_none c.take.result c.in_default.is c.take.ensures.none in
     let held = none.1 in
-    let few = gather_empty g.W.Numbered.number g.W.Numbered.home (seen c.args.seat).homes c.loop-work._work (seen c.loop-work.seat) c.loop-work.rooms held.0
+    let few = gather_empty g.W.Numbered.number g.W.Numbered.home (seen c.args.seat.now).homes c.loop-work._work (seen c.loop-work.seat) c.loop-work.rooms held.0
     c.loop-work.invariant.1 held.1 held.2 in
     let size : c.len-work-end.result ≡ length c.args.rooms = c.len-work-end.ensures in
     let long = c.requires.rooms in
@@ -17,20 +17,21 @@ unreachable-requires g c =
 
 pub put-requires : goal.put-requires
 put-requires g c =
-    let inside = gather_inside g.W.Numbered.number g.W.Numbered.home (seen c.args.seat).homes c.loop-work._work (seen c.loop-work.seat) (seen c.take.new.self) c.loop-work.rooms
+    let inside = gather_inside g.W.Numbered.number g.W.Numbered.home (seen c.args.seat.now).homes c.loop-work._work (seen c.loop-work.seat) (seen c.take.new.self) c.loop-work.rooms
     c.in-Some.work c.loop-work.invariant.1 c.in-Some.ensures.drawn in
     let named : c.number.result ≡ g.W.Numbered.number c.in-Some.work = c.number.ensures in
     omega arith
 
 pub loop-work-preserved : goal.loop-work-preserved
 loop-work-preserved g c =
-    let homes = (seen c.args.seat).homes in
+    let homes = (seen c.args.seat.now).homes in
     let more = gather_more g.W.Numbered.number g.W.Numbered.home homes c.loop-work._work (seen c.loop-work.seat) (seen c.take.new.self) c.loop-work.rooms
     c.in-Some.work c.loop-work.invariant.1 c.in-Some.ensures.drawn in
     let put : c.put.new.self ≡ set c.loop-work.rooms (g.W.Numbered.number c.in-Some.work) (Some c.in-Some.work) =
     c.put.ensures ∙ ap (λ n. set c.loop-work.rooms n (Some c.in-Some.work)) c.number.ensures in (
       c.take.ensures.own,
       subst (λ slots. IsGathering g.W.Numbered.number g.W.Numbered.home homes (c.loop-work._work + 1) (seen c.take.new.self) slots) (sym put) more,
+      c.take.ensures.others.1 ∙ c.loop-work.invariant.2,
     )
 
 -- all works are drawn
@@ -44,7 +45,9 @@ establish_all_out-requires-clause-all g c =
     rw c.loop-work.invariant.1.same (omega (arith, size, out, left, end, long))
 
 pub returns : goal.returns
-returns g c = (
-  c.loop-work.invariant.1.places,
-  λ n below. c.loop-work.invariant.1.placed n (c.establish_all_out.ensures.all n (rw c.loop-work.invariant.1.same below)),
-)
+returns g c =
+    let gathered = c.loop-work.invariant.1 in
+    record {
+      home = (gathered.places, λ n below. gathered.placed n (c.establish_all_out.ensures.all n (rw gathered.same below)));
+      place = c.establish_all_out.ensures.place ∙ c.loop-work.invariant.2;
+    }

@@ -1,3 +1,4 @@
+use Rattle.std.proofs.Common.{refl}
 use Rattle.crossbeam_queue.specs.Passes.{view}
 use Rattle.sb_pool.proofs.Gathering.{all_out}
 use Rattle.sb_pool.proofs.Steps.{looks}
@@ -10,4 +11,4 @@ pub returns : goal.returns
 returns g c =
     let v = view c.args.self.now.pass in
     let learned = c.learn_as.ensures.rule in
-    record { all = all_out g.W.Numbered.number g.W.Numbered.home v.homes v learned.0 learned.1 c.requires.last.0 c.requires.last.1 c.requires.all }
+    record { place = refl; all = all_out g.W.Numbered.number g.W.Numbered.home v.homes v learned.0 learned.1 c.requires.last.0 c.requires.last.1 c.requires.all }
