@@ -15,6 +15,13 @@ still_of pool s t own same = (
   ap (λ (v : PoolView WorkerSeatValue). v.live) same.known ∙ own.2,
   ap (λ (v : PoolView WorkerSeatValue). length v.homes) same.known ∙ own.3,
   same.rooms ∙ (own.4 ∙ ap (λ (v : PoolView WorkerSeatValue). cond (is_some v.count) pool.size 0) (sym same.known)),
+  record {
+    place = (same.place.table ∙ own.5.place.0, same.place.slots ∙ own.5.place.1);
+    number = same.place.number ∙ own.5.number ∙ ap (λ (v : PoolView WorkerSeatValue). v.number) (sym same.known);
+    out = same.place.out ∙ own.5.out ∙ ap (λ (v : PoolView WorkerSeatValue). length v.out) (sym same.known);
+    seats = same.place.seats ∙ own.5.seats ∙ ap (λ (v : PoolView WorkerSeatValue). length v.taken + 1) (sym same.known);
+    count = λ c e. own.5.count c (sym (ap (λ (v : PoolView WorkerSeatValue). v.count) same.known) ∙ e);
+  },
 )
 
 -- the pair at a place

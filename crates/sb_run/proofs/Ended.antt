@@ -101,10 +101,10 @@ are_workers world seats homes kept = record {
 }
 
 pub has_closed : ClosedRunsAreRuns → (key : Origin) (threads : List ThreadSeatValue) (seats : List WorkerSeatValue) (run : ClosedRun)
-    → IsReady key.policies.value.list key.script.value → IsClosed key threads run → run.workers.items ≡ map (λ (s : WorkerSeatValue). s.state) seats → AreFinished key threads → All IsWork seats
+    → IsReady key.policies.value.list key.script.value → IsClosed key seats threads run → run.workers.items ≡ map (λ (s : WorkerSeatValue). s.state) seats → AreFinished key threads → All IsWork seats
     → HasClosed key run
 has_closed law key threads seats run ready closed states finished kept = record {
-  runs = law key threads run ready closed (subst AreLooking (sym states) (workers_look seats kept)) finished;
+  runs = law key seats threads run ready closed (subst AreLooking (sym states) (workers_look seats kept)) finished;
   setting = closed.setting;
 }
 

@@ -1,7 +1,8 @@
 -- The threads of a run, as the one that starts them has them.
-use Rattle.std.specs.Prelude.{◌≡◌, ⊤, List}
+use Rattle.std.specs.Prelude.{◌≡◌, ◌<◌, ⊤, List}
 use Rattle.std.specs.List.{All, AllZip}
 use Rattle.sb_shared.specs.Closing.{IsKeeper, IsThreadSeat}
+use Rattle.sb_shared.specs.Events.{stop_in}
 use Rattle.sb_shared.specs.Seats.{IsSameThread, KeeperValue, ThreadSeatValue}
 use Rattle.sb_run.specs.Contexts.{ContextAt, IsContext}
 use Rattle.sb_run.specs.Servers.{IsSameServer, IsServer, ServerAt}
@@ -29,8 +30,9 @@ pub record CanRun (x : ContextAt) (threads : List ThreadSeatValue) (servers : Li
   pub its_servers : All (IsServer x) servers
   pub its_keeper : IsKeeper x.world keeper
 
--- it has ended: each thread has, the seats of the pool are what they were, and the caller's seat is still of the world
+-- it has ended: each thread has, the seats of the pool are what they were, and the caller's seat is still of the world, in which a stop was set
 pub record HasRun (x : ContextAt) (threads : List ThreadSeatValue) (servers : List ServerAt) (ended : List ThreadSeatValue) (back : List ServerAt) (keeper : KeeperValue) : Type 0 where
   pub all_ended : AllZip HasEnded threads ended
   pub served : AllZip IsSameServer servers back
   pub its_keeper : IsKeeper x.world keeper
+  pub stopped : 0 < stop_in keeper.history

@@ -5,5 +5,7 @@ pub mod Openings
 pub mod Pooling
 pub mod Returns
 pub mod Servers
+pub mod Started
+pub mod Stops
 pub mod Threads
 pub mod Works

@@ -1,5 +1,6 @@
 -- The seat of the pool with which a thread serves targets.
 use Rattle.std.specs.Prelude.{◌≡◌, [], length}
+use Rattle.sb_pool.specs.Counting.{IsSamePlace}
 use Rattle.sb_pool.specs.Pools.{IsSeatOf, seen}
 use Rattle.sb_pool.specs.declared.seats.PoolSeat.{PoolSeat}
 use Rattle.sb_shared.specs.Seats.{WorkerSeatValue}
@@ -20,3 +21,4 @@ pub record IsSameServer (old new : ServerAt) : Type 0 where
   pub slots : new.pass.me.1 ≡ old.pass.me.1
   pub known : seen new ≡ seen old
   pub rooms : length new.rooms ≡ length old.rooms
+  pub place : IsSamePlace old.place new.place

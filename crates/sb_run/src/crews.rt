@@ -1,26 +1,31 @@
 // The threads of a run: they are started, the caller has what could not be started, and all are joined.
-ghost use Rattle.std.specs.Prelude.{◌≡◌, IfOk};
+ghost use Rattle.std.specs.Prelude.{◌≡◌, ◌<◌, IfOk, OnErr, OnOk, map};
 ghost use Rattle.std.specs.List.{All, AllZip};
 ghost use Rattle.sb_run.specs.Crews.{CanRun, HasRun};
 ghost use Rattle.sb_shared.specs.Closing.{IsKeeper, IsThreadSeat};
+ghost use Rattle.sb_shared.specs.Events.{stop_in};
+ghost use Rattle.sb_shared.specs.Seats.{IsStop};
+ghost use Rattle.sb_shared.specs.declared.stops.Stop.TheVariants.{Finished};
 ghost use Rattle.sb_run.specs.Servers.{IsSameServer, IsServer};
+ghost use Rattle.sb_run.specs.Started.{IsDone};
 ghost use Rattle.sb_run.specs.Threads.{HasEnded};
 
 use crate::contexts::RunContext;
-use crate::flags::make_flags;
+use crate::flags::{Flag, make_flags};
 use crate::groups::{
     is_any_with_caller, join_servers, join_threads, serve_with_each, start_servers, start_threads,
     step_each,
 };
 use crate::started::{StartedServer, StartedThread};
 use crate::works::Server;
+use crossbeam_utils::CachePadded;
 use sb_base::NoMemory;
 use sb_outside::Gate;
 use sb_rule::Judge;
-use sb_shared::{Keeper, ThreadSeat};
+use sb_shared::{Keeper, SharedWorld, ThreadSeat};
 use std::alloc::Global;
 use std::sync::Wait;
-use std::sync::atomic::{AtomicBool, AtomicU64, Ordering};
+use std::sync::atomic::{AtomicU64, Ordering};
 use std::thread;
 use std::thread::{Scope, Threads};
 
@@ -35,12 +40,13 @@ fn look_after<J: Judge, G: Gate, R: Wait>(
     servers: &mut Vec<StartedServer>,
     keeper: &mut Keeper,
 ) -> Result<(), NoMemory>
-    requires threads { All (IsThreadSeat context.now.world) threads.old.items }
-    requires servers { All (IsServer context.now) servers.old.items }
+    requires threads { All (IsThreadSeat context.now.world) (map (λ s. s.first) threads.old.items) }
+    requires servers { All (IsServer context.now) (map (λ s. s.first) servers.old.items) }
     requires keeper { IsKeeper context.now.world keeper.old }
-    ensures threads { threads.new.items ≡ threads.old.items }
-    ensures servers { servers.new.items ≡ servers.old.items }
+    ensures threads { map (λ s. s.first) threads.new.items ≡ map (λ s. s.first) threads.old.items }
+    ensures servers { map (λ s. s.first) servers.new.items ≡ map (λ s. s.first) servers.old.items }
     ensures keeper { IsKeeper context.now.world keeper.new }
+    ensures done { OnOk result (All IsDone threads.new.items) }
 {
     context.establish_kept();
     let serves = is_any_with_caller(servers);
@@ -57,6 +63,26 @@ fn look_after<J: Judge, G: Gate, R: Wait>(
     Ok(())
 }
 
+// Joins the threads of the script, and stops the run once each has come back ended.
+fn stop_at_end<R: Threads>(
+    rt: &R,
+    alloc: Global,
+    world: &SharedWorld,
+    threads: Vec<StartedThread>,
+    keeper: &mut Keeper,
+) -> Result<Vec<ThreadSeat>, NoMemory>
+    requires threads { All IsDone threads.items }
+    requires keeper { IsKeeper world.now keeper.old }
+    ensures ended { IfOk result (λ ended. AllZip HasEnded (map (λ s. s.first) threads.items) ended.items) }
+    ensures keeper { IsKeeper world.now keeper.new }
+    ensures stopped { OnOk result (IsStop keeper.old.parts keeper.old.history Finished keeper.new.history) }
+    ensures running { OnErr result (keeper.new ≡ keeper.old) }
+{
+    let ended = join_threads(rt, alloc, threads)?;
+    keeper.stop(world);
+    Ok(ended)
+}
+
 // Starts all threads, looks after those that came back, and joins all: those of the script first, and then, once the stop word is set, those that
 // serve.
 fn work<'s, 'e, J: Judge, G: Gate, R: Threads + Wait + Sync>(
@@ -64,7 +90,7 @@ fn work<'s, 'e, J: Judge, G: Gate, R: Threads + Wait + Sync>(
     rt: &'e R,
     alloc: Global,
     context: &RunContext<'e, J, G>,
-    flags: &'e [AtomicBool],
+    flags: &'e [Flag],
     running: &'e AtomicU64,
     threads: Vec<ThreadSeat>,
     servers: Vec<Server>,
@@ -76,6 +102,7 @@ fn work<'s, 'e, J: Judge, G: Gate, R: Threads + Wait + Sync>(
     ensures ended { IfOk result (λ r. AllZip HasEnded threads.items r.0.items) }
     ensures served { IfOk result (λ r. AllZip IsSameServer servers.items r.1.items) }
     ensures keeper { IsKeeper context.now.world keeper.new }
+    ensures stopped { OnOk result (0 < stop_in keeper.new.history) }
 {
     context.establish_kept();
     let (world, script, count) = (context.world, context.script, threads.len());
@@ -90,8 +117,7 @@ fn work<'s, 'e, J: Judge, G: Gate, R: Threads + Wait + Sync>(
         &mut servers,
         keeper,
     )?;
-    let ended = join_threads(rt, alloc, threads)?;
-    keeper.stop(world);
+    let ended = stop_at_end(rt, alloc, world, threads, keeper)?;
     let back = join_servers(rt, alloc, servers)?;
     Ok((ended, back))
 }
@@ -102,33 +128,23 @@ fn work_or_fail<'s, 'e, J: Judge, G: Gate, R: Threads + Wait + Sync>(
     rt: &'e R,
     alloc: Global,
     context: &RunContext<'e, J, G>,
-    flags: &'e [AtomicBool],
+    flags: &'e [Flag],
     running: &'e AtomicU64,
     threads: Vec<ThreadSeat>,
     servers: Vec<Server>,
-    keeper: Keeper,
-) -> Result<(Vec<ThreadSeat>, Vec<Server>, Keeper), NoMemory>
-    requires { CanRun context.now threads.items servers.items keeper }
-    ensures { IfOk result (λ r. HasRun context.now threads.items servers.items r.0.items r.1.items r.2) }
+    keeper: &mut Keeper,
+) -> Result<(Vec<ThreadSeat>, Vec<Server>), NoMemory>
+    requires { CanRun context.now threads.items servers.items keeper.old }
+    ensures ran { IfOk result (λ r. HasRun context.now threads.items servers.items r.0.items r.1.items keeper.new) }
+    ensures failed { OnErr result (stop_in keeper.new.history ≡ 2) }
 {
-    let mut keeper = keeper;
-    match work(
-        scope,
-        rt,
-        alloc,
-        context,
-        flags,
-        running,
-        threads,
-        servers,
-        &mut keeper,
-    ) {
-        Ok((ended, back)) => Ok((ended, back, keeper)),
-        Err(refused) => {
-            keeper.fail(context.world);
-            Err(refused)
-        }
+    let worked = work(
+        scope, rt, alloc, context, flags, running, threads, servers, keeper,
+    );
+    if worked.is_err() {
+        keeper.fail(context.world);
     }
+    worked
 }
 
 /// Runs all threads of the script to their ends while targets are served with each seat of the pool: each by a thread of its own, or by the caller if
@@ -151,13 +167,16 @@ pub(crate) fn run_crew<J: Judge, G: Gate, R: Threads + Wait + Sync>(
     ensures ended { IfOk result (λ r. AllZip HasEnded threads.items r.0.items) }
     ensures served { IfOk result (λ r. AllZip IsSameServer servers.items r.1.items) }
     ensures keeper { IfOk result (λ r. IsKeeper context.now.world r.2) }
+    ensures stopped { IfOk result (λ r. 0 < stop_in r.2.history) }
 {
     context.establish_kept();
     let flags = make_flags(alloc, threads.len() + servers.len())?;
-    let running = AtomicU64::new(0);
+    // The caller and each thread of the script write it, so no other value is on its cache lines.
+    let running = CachePadded::new(AtomicU64::new(0));
+    let count: &AtomicU64 = &running;
     let (judge, gate, script) = (context.judge, context.gate, context.script);
     let (world, pool, serving) = (context.world, context.pool, context.serving);
-    let (all_flags, count) = (flags.as_slice(), &running);
+    let all_flags = flags.as_slice();
     thread::scope(
         thread::scope_env(),
         rt,
@@ -173,9 +192,19 @@ pub(crate) fn run_crew<J: Judge, G: Gate, R: Threads + Wait + Sync>(
                 pool,
                 serving,
             };
-            work_or_fail(
-                scope, rt, alloc, &context, all_flags, count, threads, servers, keeper,
-            )
+            let mut keeper = keeper;
+            let (ended, back) = work_or_fail(
+                scope,
+                rt,
+                alloc,
+                &context,
+                all_flags,
+                count,
+                threads,
+                servers,
+                &mut keeper,
+            )?;
+            Ok((ended, back, keeper))
         },
     )
 }

@@ -1,11 +1,13 @@
 // All started threads of the script, and all seats with which targets are served.
-ghost use Rattle.std.specs.Prelude.{◌≡◌, IfOk};
-ghost use Rattle.std.specs.List.{All, AllZip};
+ghost use Rattle.std.specs.Prelude.{◌≡◌, IfOk, OnOk, false, map};
+ghost use Rattle.std.specs.List.{All, AllZip, list_any};
 ghost use Rattle.sb_shared.specs.Closing.{IsThreadSeat};
 ghost use Rattle.sb_run.specs.Servers.{IsSameServer, IsServer};
+ghost use Rattle.sb_run.specs.Started.{IsDone};
 ghost use Rattle.sb_run.specs.Threads.{HasEnded};
 
 use crate::contexts::RunContext;
+use crate::flags::Flag;
 use crate::spawning::{start_server, start_thread};
 use crate::started::{StartedServer, StartedThread};
 use crate::works::Server;
@@ -16,7 +18,7 @@ use sb_shared::{SharedWorld, ThreadSeat};
 use sb_statements::SoundScript;
 use std::alloc::Global;
 use std::sync::Wait;
-use std::sync::atomic::{AtomicBool, AtomicU64};
+use std::sync::atomic::AtomicU64;
 use std::thread::{Scope, Threads};
 
 /// Starts all threads of the script, each with a flag of its own: the first ones.
@@ -29,13 +31,13 @@ pub(crate) fn start_threads<'s, 'e, R: Threads + Wait + Sync>(
     alloc: Global,
     world: &'e SharedWorld,
     script: &'e SoundScript,
-    flags: &'e [AtomicBool],
+    flags: &'e [Flag],
     running: &'e AtomicU64,
     threads: Vec<ThreadSeat>,
 ) -> Result<Vec<StartedThread>, NoMemory>
     requires own { All (IsThreadSeat world.now) threads.items }
     requires script { script.now ≡ world.now.key.script.value }
-    ensures { IfOk result (λ started. started.items ≡ threads.items) }
+    ensures { IfOk result (λ started. map (λ s. s.first) started.items ≡ threads.items) }
 {
     let mut started = Vec::new(alloc);
     for seat in threads {
@@ -46,15 +48,16 @@ pub(crate) fn start_threads<'s, 'e, R: Threads + Wait + Sync>(
     Ok(started)
 }
 
-/// One step of each thread whose steps the caller makes. True if there was one to make.
+/// One step of each thread whose steps the caller makes. False only if each of them is finished.
 pub(crate) fn step_each(
     world: &SharedWorld,
     script: &SoundScript,
     threads: &mut Vec<StartedThread>,
 ) -> bool
-    requires own { All (IsThreadSeat world.now) threads.old.items }
+    requires own { All (IsThreadSeat world.now) (map (λ s. s.first) threads.old.items) }
     requires script { script.now ≡ world.now.key.script.value }
-    ensures { threads.new.items ≡ threads.old.items }
+    ensures first { map (λ s. s.first) threads.new.items ≡ map (λ s. s.first) threads.old.items }
+    ensures done { result ≡ false → All IsDone threads.new.items }
 {
     let mut busy = false;
     for at in 0..threads.len() {
@@ -74,7 +77,8 @@ pub(crate) fn join_threads<R: Threads>(
     alloc: Global,
     threads: Vec<StartedThread>,
 ) -> Result<Vec<ThreadSeat>, NoMemory>
-    ensures { IfOk result (λ seats. AllZip HasEnded threads.items seats.items) }
+    requires { All IsDone threads.items }
+    ensures { IfOk result (λ seats. AllZip HasEnded (map (λ s. s.first) threads.items) seats.items) }
 {
     let mut seats = Vec::new(alloc);
     for thread in threads {
@@ -93,12 +97,12 @@ pub(crate) fn start_servers<'s, 'e, J: Judge, G: Gate, R: Threads + Wait + Sync>
     rt: &'e R,
     alloc: Global,
     context: &RunContext<'e, J, G>,
-    flags: &'e [AtomicBool],
+    flags: &'e [Flag],
     first: usize,
     servers: Vec<Server>,
 ) -> Result<Vec<StartedServer>, NoMemory>
     requires { All (IsServer context.now) servers.items }
-    ensures { IfOk result (λ started. started.items ≡ servers.items) }
+    ensures { IfOk result (λ started. map (λ s. s.first) started.items ≡ servers.items) }
 {
     let mut started = Vec::new(alloc);
     for server in servers {
@@ -110,7 +114,9 @@ pub(crate) fn start_servers<'s, 'e, J: Judge, G: Gate, R: Threads + Wait + Sync>
 }
 
 /// Whether the caller serves with some of these seats.
-pub(crate) fn is_any_with_caller(servers: &[StartedServer]) -> bool {
+pub(crate) fn is_any_with_caller(servers: &[StartedServer]) -> bool
+    ensures { result ≡ list_any (λ s. s.by_caller) servers.now }
+{
     servers.iter().any(|server| server.is_with_caller())
 }
 
@@ -124,8 +130,9 @@ pub(crate) fn serve_with_each<J: Judge, G: Gate, R: Wait>(
     context: &RunContext<'_, J, G>,
     servers: &mut Vec<StartedServer>,
 ) -> Result<(), NoMemory>
-    requires { All (IsServer context.now) servers.old.items }
-    ensures { servers.new.items ≡ servers.old.items }
+    requires { All (IsServer context.now) (map (λ s. s.first) servers.old.items) }
+    ensures first { map (λ s. s.first) servers.new.items ≡ map (λ s. s.first) servers.old.items }
+    ensures same { OnOk result (servers.new.items ≡ servers.old.items) }
 {
     for at in 0..servers.len() {
         servers[at].serve(rt, alloc, context)?;
@@ -142,7 +149,7 @@ pub(crate) fn join_servers<R: Threads>(
     alloc: Global,
     servers: Vec<StartedServer>,
 ) -> Result<Vec<Server>, NoMemory>
-    ensures { IfOk result (λ back. AllZip IsSameServer servers.items back.items) }
+    ensures { IfOk result (λ back. AllZip IsSameServer (map (λ s. s.first) servers.items) back.items) }
 {
     let mut back = Vec::new(alloc);
     for server in servers {

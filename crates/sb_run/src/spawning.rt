@@ -7,6 +7,7 @@ ghost use Rattle.sb_shared.specs.Closing.{IsThreadSeat};
 ghost use Rattle.sb_run.specs.Servers.{IsServer};
 
 use crate::contexts::RunContext;
+use crate::flags::Flag;
 use crate::promises::{ServerHost, ServerPromise, ThreadHost, ThreadPromise};
 use crate::returns::{ServerReturn, ThreadReturn};
 use crate::serving::attend;
@@ -21,7 +22,7 @@ use sb_statements::SoundScript;
 use std::alloc::Global;
 use std::snapshot::Snapshot;
 use std::sync::Wait;
-use std::sync::atomic::{AtomicBool, AtomicU64, Ordering};
+use std::sync::atomic::{AtomicU64, Ordering};
 use std::thread::{Scope, Threads};
 
 // Runs a thread of the script to its end, unless the flag says that its thread could not be started: then the seat comes back. One thread less is
@@ -30,7 +31,7 @@ fn run_or_return<R: Wait>(
     rt: &R,
     world: &SharedWorld,
     script: &SoundScript,
-    refused: &AtomicBool,
+    refused: &Flag,
     running: &AtomicU64,
     seat: ThreadSeat,
 ) -> ThreadReturn
@@ -57,7 +58,7 @@ fn thread_host(
     returned: ThreadReturn,
 ) -> Result<StartedThread, NoMemory>
     requires { IsThreadReturn first.value returned }
-    ensures { IfOk result (λ s. s ≡ first.value) }
+    ensures { IfOk result (λ s. s.first ≡ first.value) }
 {
     match returned {
         ThreadReturn::Ended(seat) | ThreadReturn::Back(seat) => {
@@ -76,13 +77,13 @@ pub(crate) fn start_thread<'s, 'e, R: Threads + Wait + Sync>(
     rt: &'e R,
     world: &'e SharedWorld,
     script: &'e SoundScript,
-    refused: Option<&'e AtomicBool>,
+    refused: Option<&'e Flag>,
     running: &'e AtomicU64,
     seat: ThreadSeat,
 ) -> Result<StartedThread, NoMemory>
     requires own { IsThreadSeat world.now seat }
     requires script { script.now ≡ world.now.key.script.value }
-    ensures { IfOk result (λ s. s ≡ seat) }
+    ensures { IfOk result (λ s. s.first ≡ seat) }
 {
     let first = Snapshot::of(&seat);
     let Some(refused) = refused else {
@@ -112,7 +113,7 @@ fn attend_or_return<J: Judge, G: Gate, R: Wait>(
     rt: &R,
     alloc: Global,
     context: RunContext<'_, J, G>,
-    refused: &AtomicBool,
+    refused: &Flag,
     server: Server,
 ) -> ServerReturn
     requires { IsServer context server }
@@ -123,7 +124,7 @@ fn attend_or_return<J: Judge, G: Gate, R: Wait>(
     }
     let mut server = server;
     match attend(rt, alloc, &context, &mut server) {
-        Ok(()) => ServerReturn::Ended(server),
+        Ok(_) => ServerReturn::Ended(server),
         Err(_) => ServerReturn::Stopped,
     }
 }
@@ -131,7 +132,7 @@ fn attend_or_return<J: Judge, G: Gate, R: Wait>(
 // A seat of the pool that came back: the caller serves with it.
 fn server_host(first: Snapshot<Server>, returned: ServerReturn) -> Result<StartedServer, NoMemory>
     requires { IsServerReturn first.value returned }
-    ensures { IfOk result (λ s. s ≡ first.value) }
+    ensures { IfOk result (λ s. s.first ≡ first.value) }
 {
     match returned {
         ServerReturn::Ended(server) | ServerReturn::Back(server) => {
@@ -150,11 +151,11 @@ pub(crate) fn start_server<'s, 'e, J: Judge, G: Gate, R: Threads + Wait + Sync>(
     rt: &'e R,
     alloc: Global,
     context: &RunContext<'e, J, G>,
-    refused: Option<&'e AtomicBool>,
+    refused: Option<&'e Flag>,
     server: Server,
 ) -> Result<StartedServer, NoMemory>
     requires { IsServer context.now server }
-    ensures { IfOk result (λ s. s ≡ server) }
+    ensures { IfOk result (λ s. s.first ≡ server) }
 {
     context.establish_kept();
     let first = Snapshot::of(&server);

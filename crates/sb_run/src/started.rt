@@ -1,8 +1,9 @@
 // A thread of the script that was started, and a seat of the pool with which targets are served: by a thread of their own, or by the caller.
-ghost use Rattle.std.specs.Prelude.{◌≡◌, IfOk};
+ghost use Rattle.std.specs.Prelude.{◌≡◌, IfOk, OnOk, false};
 ghost use Rattle.sb_run.specs.Crews.{IsServerHostOf, IsThreadHostOf};
 ghost use Rattle.sb_shared.specs.Closing.{IsThreadSeat};
 ghost use Rattle.sb_run.specs.Servers.{IsSameServer, IsServer};
+ghost use Rattle.sb_run.specs.Started.{IsDone, is_unfinished, started_server, started_thread};
 ghost use Rattle.sb_run.specs.Threads.{HasEnded};
 
 use crate::contexts::RunContext;
@@ -21,7 +22,7 @@ use std::snapshot::Snapshot;
 use std::sync::Wait;
 use std::thread::{Threads, yield_now};
 
-/// A thread of the script that was started. Contracts see its seat as it was then.
+/// A thread of the script that was started. Contracts see its seat as it was then, and as it is if the caller makes its steps.
 pub(crate) struct StartedThread {
     first: Snapshot<ThreadSeat>,
     host: ThreadHost,
@@ -35,11 +36,11 @@ impl Drop for StartedThread {
 
 impl Model for StartedThread {
     ghost use Rattle.sb_run.specs.Crews.{IsThreadHostOf};
-    ghost use Rattle.sb_shared.specs.Seats.{ThreadSeatValue};
+    ghost use Rattle.sb_run.specs.Started.{StartedAt, started_thread};
 
-    ghost Value = { ThreadSeatValue };
+    ghost Value = { StartedAt };
 
-    ghost view = { λ x. x.first.value };
+    ghost view = { λ x. started_thread x.first.value x.host };
 
     ghost invariant = { λ x. IsThreadHostOf x.first.value x.host };
 }
@@ -48,16 +49,18 @@ impl StartedThread {
     /// A thread with its host.
     pub(crate) fn new(first: Snapshot<ThreadSeat>, host: ThreadHost) -> StartedThread
         requires { IsThreadHostOf first.value host }
-        ensures { result ≡ first.value }
+        ensures { result ≡ started_thread first.value host }
     {
         StartedThread { first, host }
     }
 
     /// Makes the next step of a thread whose steps the caller makes. True if there was one to make.
     pub(crate) fn step(&mut self, world: &SharedWorld, script: &SoundScript) -> bool
-        requires own { IsThreadSeat world.now self.old }
+        requires own { IsThreadSeat world.now self.old.first }
         requires script { script.now ≡ world.now.key.script.value }
-        ensures { self.new ≡ self.old }
+        ensures first { self.new.first ≡ self.old.first }
+        ensures is { result ≡ is_unfinished self.old.caller }
+        ensures idle { result ≡ false → self.new ≡ self.old }
     {
         match &mut self.host {
             ThreadHost::Caller(seat) => {
@@ -74,12 +77,13 @@ impl StartedThread {
         }
     }
 
-    /// The seat of the thread, once it has ended. It waits for that.
+    /// The seat of the thread, once it has ended. It waits for that, unless the caller made all its steps.
     ///
     /// # Errors
-    /// `NoMemory` if the thread was stopped since memory ran out, or the caller has not made all its steps.
+    /// `NoMemory` if the thread was stopped since memory ran out.
     pub(crate) fn join<R: Threads>(self, rt: &R) -> Result<ThreadSeat, NoMemory>
-        ensures { IfOk result (λ s. HasEnded self s) }
+        requires { IsDone self }
+        ensures { IfOk result (λ s. HasEnded self.first s) }
     {
         let StartedThread { first: _, host } = self;
         match host {
@@ -87,17 +91,12 @@ impl StartedThread {
                 ThreadReturn::Ended(seat) => Ok(seat),
                 ThreadReturn::Back(_) | ThreadReturn::Stopped => Err(NoMemory),
             },
-            ThreadHost::Caller(seat) => {
-                if !seat.is_finished() {
-                    return Err(NoMemory);
-                }
-                Ok(seat)
-            }
+            ThreadHost::Caller(seat) => Ok(seat),
         }
     }
 }
 
-/// A seat of the pool with which targets are served. Contracts see it as it was at first.
+/// A seat of the pool with which targets are served. Contracts see it as it was at first, and whether the caller serves with it.
 pub(crate) struct StartedServer {
     first: Snapshot<Server>,
     host: ServerHost,
@@ -111,11 +110,11 @@ impl Drop for StartedServer {
 
 impl Model for StartedServer {
     ghost use Rattle.sb_run.specs.Crews.{IsServerHostOf};
-    ghost use Rattle.sb_run.specs.Servers.{ServerAt};
+    ghost use Rattle.sb_run.specs.Started.{StartedServerAt, started_server};
 
-    ghost Value = { ServerAt };
+    ghost Value = { StartedServerAt };
 
-    ghost view = { λ x. x.first.value };
+    ghost view = { λ x. started_server x.first.value x.host };
 
     ghost invariant = { λ x. IsServerHostOf x.first.value x.host };
 }
@@ -124,13 +123,15 @@ impl StartedServer {
     /// A seat with its host.
     pub(crate) fn new(first: Snapshot<Server>, host: ServerHost) -> StartedServer
         requires { IsServerHostOf first.value host }
-        ensures { result ≡ first.value }
+        ensures { result ≡ started_server first.value host }
     {
         StartedServer { first, host }
     }
 
     /// Whether the caller serves with this seat.
-    pub(crate) fn is_with_caller(&self) -> bool {
+    pub(crate) fn is_with_caller(&self) -> bool
+        ensures { result ≡ self.now.by_caller }
+    {
         matches!(self.host, ServerHost::Caller(_))
     }
 
@@ -144,8 +145,9 @@ impl StartedServer {
         alloc: Global,
         context: &RunContext<'_, J, G>,
     ) -> Result<(), NoMemory>
-        requires { IsServer context.now self.old }
-        ensures { self.new ≡ self.old }
+        requires { IsServer context.now self.old.first }
+        ensures first { self.new.first ≡ self.old.first }
+        ensures same { OnOk result (self.new ≡ self.old) }
     {
         let ServerHost::Caller(server) = &mut self.host else {
             return Ok(());
@@ -162,7 +164,7 @@ impl StartedServer {
     /// # Errors
     /// `NoMemory` if memory ran out.
     pub(crate) fn join<R: Threads>(self, rt: &R) -> Result<Server, NoMemory>
-        ensures { IfOk result (λ s. IsSameServer self s) }
+        ensures { IfOk result (λ s. IsSameServer self.first s) }
     {
         let StartedServer { first: _, host } = self;
         match host {

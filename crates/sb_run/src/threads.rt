@@ -1,6 +1,7 @@
 // A thread of the script is run to its end.
-ghost use Rattle.std.specs.Prelude.{◌≡◌, OnOk};
+ghost use Rattle.std.specs.Prelude.{◌≡◌, ◌<◌, OnErr, OnOk};
 ghost use Rattle.sb_shared.specs.Closing.{IsThreadSeat};
+ghost use Rattle.sb_shared.specs.Events.{stop_in};
 ghost use Rattle.sb_run.specs.Threads.{HasEnded};
 
 use crate::pauses::StepWait;
@@ -22,7 +23,8 @@ pub(crate) fn run_thread<R: Wait>(
 ) -> Result<(), NoMemory>
     requires own { IsThreadSeat world.now seat.old }
     requires script { script.now ≡ world.now.key.script.value }
-    ensures { OnOk result (HasEnded seat.old seat.new) }
+    ensures ended { OnOk result (HasEnded seat.old seat.new) }
+    ensures stopped { OnErr result (0 < stop_in seat.new.history) }
 {
     let mut wait = StepWait::new();
     for _ in rt.forever() {

@@ -1,8 +1,9 @@
 // A worker serves its target for a while.
-ghost use Rattle.std.specs.Prelude.{◌≡◌, true, OnOk};
+ghost use Rattle.std.specs.Prelude.{◌≡◌, true, OnErr, OnOk};
 ghost use Rattle.sb_actor.specs.WorkerTable.{is_looking, worker_plan};
 ghost use Rattle.sb_actor.specs.declared.acts.Act.TheVariants.{Take};
 ghost use Rattle.sb_shared.specs.Closing.{IsWorkerOf};
+ghost use Rattle.sb_shared.specs.Events.{stop_in};
 ghost use Rattle.sb_shared.specs.Seats.{IsSameWorker};
 
 use crate::contexts::RunContext;
@@ -48,7 +49,7 @@ fn try_turn<J: Judge, G: Gate, R: Wait>(
 }
 
 // The worker's next step, by its plan.
-fn advance<J: Judge, G: Gate, R: Wait>(
+fn make_step<J: Judge, G: Gate, R: Wait>(
     rt: &R,
     alloc: Global,
     context: &RunContext<'_, J, G>,
@@ -73,11 +74,30 @@ fn advance<J: Judge, G: Gate, R: Wait>(
     }
 }
 
+// The same. If memory ran out, the stop word says so.
+fn advance<J: Judge, G: Gate, R: Wait>(
+    rt: &R,
+    alloc: Global,
+    context: &RunContext<'_, J, G>,
+    seat: &mut WorkerSeat,
+    misses: &mut u32,
+) -> Result<(), NoMemory>
+    requires own { IsWorkerOf context.now.world seat.old }
+    ensures same { IsSameWorker seat.old seat.new }
+    ensures failed { OnErr result (stop_in seat.new.history ≡ 2) }
+{
+    let made = make_step(rt, alloc, context, seat, misses);
+    if made.is_err() {
+        seat.fail(context.world);
+    }
+    made
+}
+
 /// Makes the steps of a worker until it has looked at each channel in turn and found none ready, or has served `MOST_CALLS` calls. True if it served a call.
 ///
 /// # Errors
-/// `NoMemory` if there is none for a decision or an answer, or another worker ran out of memory while this one tried to take the turn. Then the stop word is
-/// set, and the worker is where it was, with the turn if it had it.
+/// `NoMemory` if there is none for a decision or an answer, or another worker ran out of memory while this one tried to take the turn. Then the stop word says
+/// so, and the worker is where it was, with the turn if it had it.
 pub(crate) fn visit<J: Judge, G: Gate, R: Wait>(
     rt: &R,
     alloc: Global,
@@ -88,6 +108,7 @@ pub(crate) fn visit<J: Judge, G: Gate, R: Wait>(
     requires looking { is_looking seat.old.state.stage ≡ true }
     ensures same { IsSameWorker seat.old seat.new }
     ensures looking { OnOk result (is_looking seat.new.state.stage ≡ true) }
+    ensures failed { OnErr result (stop_in seat.new.history ≡ 2) }
 {
     let channels = seat.channels();
     let mut left = channels;
@@ -95,10 +116,7 @@ pub(crate) fn visit<J: Judge, G: Gate, R: Wait>(
     let mut misses = 0u32;
     for _ in rt.forever() {
         let looked = seat.is_looking();
-        if advance(rt, alloc, context, seat, &mut misses).is_err() {
-            seat.fail(context.world);
-            return Err(NoMemory);
-        }
+        advance(rt, alloc, context, seat, &mut misses)?;
         if seat.is_looking() {
             if looked {
                 left = left.saturating_sub(1);

@@ -12,18 +12,24 @@ use Rattle.sb_statements.specs.declared.scripts.TargetScript.{TargetScript}
 use Rattle.sb_core.specs.Actors.{are_there}
 use Rattle.sb_core.specs.Changes.{Changes, plan_of}
 use Rattle.sb_core.specs.Shared.{IsActThere, SharedAt, on_word}
-use Rattle.sb_core.specs.Worlds.{WorldAt, step}
-use Rattle.sb_shared.specs.Parts.{actor_in, held_by, is_on_word, part_of, part_after, plan_in, seen_of, word_view}
+use Rattle.sb_core.specs.Worlds.{WorldAt, step, steps}
+use Rattle.sb_actor.specs.Observations.{Observation}
+use Rattle.sb_shared.specs.Events.{actors_of, steps_of, world_in}
+use Rattle.sb_shared.specs.Parts.{actor_in, first_part, held_by, is_on_word, part_of, part_after, plan_in, seen_of, word_view}
+use Rattle.sb_shared.specs.Plays.{IsMade, IsShown}
 use Rattle.sb_shared.specs.Rule.{FitsPart, FitsView, RuleAt, Shows, Slot, stop_word}
 use Rattle.sb_shared.specs.Laws.{Laws}
 use Rattle.sb_shared.specs.Origins.{start_of}
 use Rattle.sb_shared.specs.Standing.{AllStand}
-use Rattle.sb_shared.specs.Stops.{Stops}
+use Rattle.sb_shared.specs.Steps.{IsSince, IsStep, shown_in}
+use Rattle.sb_shared.specs.declared.views.Event.{Event}
+use Rattle.sb_shared.specs.declared.views.Event.TheVariants as event
 use Rattle.sb_shared.specs.declared.views.Origin.{Origin}
 use Rattle.sb_shared.specs.declared.views.Part.{Part}
+use Rattle.sb_shared.specs.declared.views.TakenSeat.{TakenSeat}
 use Rattle.sb_shared.specs.declared.views.View.{View}
-use Rattle.sb_shared.proofs.Stopping.{stops_stay}
-use Rattle.sb_shared.proofs.Standing.{actor_of_part, all_stand, part_moved, part_stays, plan_of_part, shared_after, word_book, word_turn}
+use Rattle.sb_shared.proofs.Happened.{actors_step, begins_more, begins_self, since_of, since_step, steps_other, stop_step}
+use Rattle.sb_shared.proofs.Standing.{actor_of_part, all_stand, part_moved, part_stays, plan_of_part, shared_after, shown_on_word, word_book, word_turn}
 
 both : (a b : Bool) → a ≡ true → b ≡ true → (a && b) ≡ true
 both true b e f = f
@@ -46,7 +52,7 @@ only_one {A} l p q n e h = by n (ap (λ (z : List A). get_elem? z n) (sym e) ∙
     by (suc m) f = absurd (some-ne-none q (sym f))
 
 module _ (laws : Laws) (key : Origin) (words : List ℕ) (homes : List (raw.Option Slot)) (views : List View)
-    (actors : List Actor) (w : WorldAt) (owner : Actor → ℕ) (r : RuleAt key words homes views actors w owner)
+    (events : List Event) (w : WorldAt) (owner : Actor → ℕ) (r : RuleAt key words homes views events w owner)
     (id : ℕ) (v : View) (p : Part) (at_id : get_elem? views id ≡ raw.some v) (one : v.parts ≡ p ∷ []) where
   abbrev pub script : Script
   script = key.script.value
@@ -57,8 +63,15 @@ module _ (laws : Laws) (key : Origin) (words : List ℕ) (homes : List (raw.Opti
   abbrev pub next : WorldAt
   next = step script w who
 
-  pub mine : FitsPart key w owner id v p
-  mine = (r.seats id v at_id).parts 0 p (ap (λ (l : List Part). get_elem? l 0) one)
+  -- with the step
+  abbrev pub after : List Event
+  after = events ++ event.Step who ∷ []
+
+  pub ours : FitsView key events w owner id v
+  ours = r.seats id v at_id
+
+  pub mine : FitsPart key events w owner id v p
+  mine = ours.parts 0 p (ap (λ (l : List Part). get_elem? l 0) one)
 
   pub changes : Changes who (plan_of script w who) w next
   changes = laws.change script w who r.world r.running mine.there
@@ -67,7 +80,7 @@ module _ (laws : Laws) (key : Origin) (words : List ℕ) (homes : List (raw.Opti
   abbrev pub HeldElse : Type 0
   HeldElse = (t : ℕ) → who ≢ Worker t → held_by next.shared.turn next.shared.book t ≡ held_by w.shared.turn w.shared.book t
 
-  other_fits : HeldElse → (j : ℕ) (u : View) → j ≢ id → get_elem? views j ≡ raw.some u → FitsView key next owner j u
+  other_fits : HeldElse → (j : ℕ) (u : View) → j ≢ id → get_elem? views j ≡ raw.some u → FitsView key after next owner j u
   other_fits held j u ne at_j =
       let f = r.seats j u at_j in
       record {
@@ -79,43 +92,79 @@ module _ (laws : Laws) (key : Origin) (words : List ℕ) (homes : List (raw.Opti
               is = g.is ∙ sym (part_stays script w who (actor_in q) changes apart (λ t e. held t (λ z. apart (z ∙ sym e))));
               there = g.there;
               owned = g.owned;
+              seen = steps_other (actor_in q) who events (λ e. apart (sym e)) ∙ g.seen;
             };
         apart = f.apart;
+        history = begins_more u.history events (event.Step who ∷ []) f.history;
+        taken = λ n t e.
+            let g = f.taken n t e in
+            record {
+              since = since_step t.parts t.history events who g.since (λ k q at_k z. ne (sym (g.owned k q at_k) ∙ ap owner z ∙ mine.owned));
+              owned = g.owned;
+            };
       }
 
-  my_fits : (u : View) (q : Part) → u.key ≡ v.key → u.parts ≡ q ∷ [] → q ≡ part_of next who → FitsView key next owner id u
-  my_fits u q same parts is =
+  my_fits : (u : View) (q : Part) → u.key ≡ v.key → u.parts ≡ q ∷ [] → q ≡ part_of next who → u.history ≡ after → u.taken ≡ [] → FitsView key after next owner id u
+  my_fits u q same parts is history taken =
       let actor : actor_in q ≡ who = ap actor_in is ∙ actor_of_part next who in
       record {
         parts = λ n x at_n.
-            subst (FitsPart key next owner id u) (only_one u.parts q x n parts at_n).1
+            subst (FitsPart key after next owner id u) (only_one u.parts q x n parts at_n).1
             (record {
               key_is = same ∙ mine.key_is;
               is = is ∙ ap (part_of next) (sym actor);
               there = ap (is_there script.targets) actor ∙ mine.there;
               owned = ap owner actor ∙ mine.owned;
+              seen = ap (steps_of (actor_in q)) (sym history);
             });
         apart = λ m n x y at_m at_n ne. absurd (ne ((only_one u.parts q x m parts at_m).0 ∙ sym (only_one u.parts q y n parts at_n).0));
+        history = begins_self u.history after (sym history);
+        taken = λ n t e. absurd (some-ne-none t (sym e ∙ ap (λ (l : List TakenSeat). get_elem? l n) taken));
       }
 
   -- the actor makes its step, and its seat has this view then
-  pub advance : (u : View) (q : Part) (words_after : List ℕ) (homes_after : List (raw.Option Slot)) → u.key ≡ v.key → u.parts ≡ q ∷ []
-      → u.stop ≡ v.stop → u.seen ≡ v.seen → q ≡ part_of next who → Shows next.shared words_after homes_after
-      → get_or words_after stop_word 0 ≡ get_or words stop_word 0 → HeldElse → RuleAt key words_after homes_after (set views id u) (actors ++ who ∷ []) next owner
-  advance u q words_after homes_after same parts same_stop same_seen is shows stop held =
+  pub advance : (u : View) (q : Part) (words_after : List ℕ) (homes_after : List (raw.Option Slot)) → u.key ≡ v.key → u.parts ≡ q ∷ [] → u.history ≡ after
+      → u.taken ≡ [] → q ≡ part_of next who → Shows next.shared words_after homes_after
+      → get_or words_after stop_word 0 ≡ get_or words stop_word 0 → HeldElse → RuleAt key words_after homes_after (set views id u) after next owner
+  advance u q words_after homes_after same parts history taken is shows stop held =
       let kept = laws.keep script w who r.world r.running mine.there in
+      let actors = actors_step events who in
       record {
-        reached = ap (λ z. step script z who) r.reached ∙ sym (laws.fold script actors (who ∷ []) (start_of key));
-        there = there_more script.targets actors who r.there mine.there;
+        reached =
+            ap (λ z. step script z who) r.reached ∙ sym (laws.fold script (actors_of events) (who ∷ []) (start_of key))
+            ∙ ap (λ (l : List Actor). steps script l (start_of key)) (sym actors);
+        there = subst (λ (l : List Actor). are_there script.targets l ≡ true) (sym actors) (there_more script.targets (actors_of events) who r.there mine.there);
         world = kept.0;
         running = kept.1;
         setting = changes.setting ∙ r.setting;
         shows = shows;
+        stop = stop ∙ r.stop ∙ sym (stop_step events who);
         seats = λ j x at_j. ⊎_elim
-            (λ h. subst (λ z. FitsView key next owner z x) (sym h.0) (subst (FitsView key next owner id) h.1 (my_fits u q same parts is)))
+            (λ h. subst (λ z. FitsView key after next owner z x) (sym h.0) (subst (FitsView key after next owner id) h.1 (my_fits u q same parts is history taken)))
             (λ h. other_fits held j x h.0 h.1) (at_set views id j u x at_j);
-        stops = subst (λ z. Stops z (set views id u)) (sym stop) (stops_stay (get_or words stop_word 0) views id v u r.stops at_id same_stop same_seen);
       }
+
+  -- its seat has made one step of the core, and saw what the core's step shows
+  abbrev pub made : (u : View) (q : Part) → u.parts ≡ q ∷ [] → u.history ≡ after → q ≡ part_of next who → IsMade v u
+  made u q parts history is = record {
+    before = events;
+    core =
+        let core : IsStep key p q v.history events u.history = record {
+          since = subst (λ (l : List Part). IsSince l v.history events) one (since_of key events w owner id v ours);
+          there = r.there;
+          stood = mine.is ∙ ap (λ (z : WorldAt). part_of z who) r.reached;
+          stands = is ∙ ap (λ (z : WorldAt). part_of (step script z who) who) r.reached;
+          made = history;
+        } in
+        subst (λ (z : Origin × Part × Part). IsStep z.0 z.1 z.2 v.history events u.history)
+        (λ i. (sym mine.key_is i, ap first_part (sym one) i, ap first_part (sym parts) i)) core;
+  }
+
+  abbrev pub shown : (u : View) (q : Part) → u.parts ≡ q ∷ [] → u.history ≡ after → q ≡ part_of next who → (seen : Observation) → seen ≡ shown_in v.key.script.value w p → IsShown v u seen
+  shown u q parts history is seen e = (
+    made u q parts history is,
+    e ∙ (λ i. shown_in v.key.script.value ((r.reached ∙ ap (λ (k : Origin). world_in k events) (sym mine.key_is)) i) (ap first_part (sym one) i)),
+  )
 
   -- what holds of the actor wherever it is, holds after its step
   pub stands_after : (u : View) (q : Part) → u.key ≡ v.key → u.parts ≡ q ∷ [] → q ≡ part_of next who → AllStand u.key u.parts
@@ -140,18 +189,28 @@ module _ (laws : Laws) (key : Origin) (words : List ℕ) (homes : List (raw.Opti
         subst (λ z. (on_word w.shared z).seen ≡ seen_of z n) plan_is seen in
         (λ i. part_after (mine.key_is i).script.value (mine.is i) n) ∙ sym (part_moved script w r.world r.running who n mine.there on_plan seen_plan)
 
-    parts_after : (word_view v n).parts ≡ part_after v.key.script.value p n ∷ []
+    abbrev pub word_after : View
+    word_after = word_view v n after
+
+    parts_after : word_after.parts ≡ part_after v.key.script.value p n ∷ []
     parts_after = ap (map (λ q. part_after v.key.script.value q n)) one
 
     pub advance_word : (words_after : List ℕ) → Shows (on_word w.shared (plan_in v.key.script.value p)).shared words_after homes
-        → get_or words_after stop_word 0 ≡ get_or words stop_word 0 → RuleAt key words_after homes (set views id (word_view v n)) (actors ++ who ∷ []) next owner
+        → get_or words_after stop_word 0 ≡ get_or words stop_word 0 → RuleAt key words_after homes (set views id word_after) after next owner
     advance_word words_after shows stop =
         let same = shared_after script w who on_plan in
         let turn : next.shared.turn ≡ w.shared.turn = ap (λ (s : SharedAt). s.turn) same ∙ word_turn w.shared (plan_of script w who) in
         let book : next.shared.book ≡ w.shared.book = ap (λ (s : SharedAt). s.book) same ∙ word_book w.shared (plan_of script w who) in
-        advance (word_view v n) (part_after v.key.script.value p n) words_after homes refl parts_after refl refl moved
+        advance word_after (part_after v.key.script.value p n) words_after homes refl parts_after refl refl moved
         (subst (λ z. Shows z words_after homes) (ap (λ z. (on_word w.shared z).shared) plan_is ∙ sym same) shows) stop
         (λ t apart. λ i. held_by (turn i) (book i) t)
 
-    pub stands_word : AllStand v.key (word_view v n).parts
-    stands_word = stands_after (word_view v n) (part_after v.key.script.value p n) refl parts_after moved
+    pub stands_word : AllStand v.key word_after.parts
+    stands_word = stands_after word_after (part_after v.key.script.value p n) refl parts_after moved
+
+    -- what it found is what is in the core
+    pub shown_word : IsShown v word_after (seen_of (plan_in v.key.script.value (first_part v.parts)) n)
+    shown_word =
+        subst (λ (z : Part). IsShown v word_after (seen_of (plan_in v.key.script.value z) n)) (ap first_part (sym one))
+        (shown word_after (part_after v.key.script.value p n) parts_after refl moved (seen_of (plan_in v.key.script.value p) n)
+        (sym seen ∙ sym (shown_on_word v.key.script.value w p on)))

@@ -7,33 +7,44 @@ use Rattle.atomic_table.specs.Table.{State, keeps}
 use Rattle.sb_actor.specs.declared.acts.Act.{Act}
 use Rattle.sb_actor.specs.declared.acts.Act.TheVariants as act
 use Rattle.sb_actor.specs.Observations as seen
-use Rattle.sb_statements.specs.declared.schedules.Actor.{Actor}
 use Rattle.sb_statements.specs.declared.statements.Word.{Word}
 use Rattle.sb_core.specs.Shared.{IsActThere, on_word}
 use Rattle.sb_core.specs.Words.{IsWordThere}
+use Rattle.sb_statements.specs.declared.schedules.Actor.{Actor}
 use Rattle.sb_core.specs.Worlds.{WorldAt, step}
 use Rattle.sb_shared.specs.Laws.{Laws}
-use Rattle.sb_shared.specs.Parts.{actor_in, is_on_word, plan_in, seen_of, word_view}
-use Rattle.sb_shared.specs.Plays.{IsSpot, MayStep}
+use Rattle.sb_shared.specs.Parts.{actor_in, first_part, is_on_word, plan_in, seen_of, word_view}
+use Rattle.sb_shared.specs.Plays.{IsShown, IsSpot, MayStep}
 use Rattle.sb_shared.specs.Rule.{Holds, RuleAt, Shows, Slot, spot, stop_word}
 use Rattle.sb_shared.specs.Standing.{AllStand}
+use Rattle.sb_shared.specs.declared.views.Event.{Event}
+use Rattle.sb_shared.specs.declared.views.Event.TheVariants as event
 use Rattle.sb_shared.specs.declared.views.Origin.{Origin}
 use Rattle.sb_shared.specs.declared.views.Part.{Part}
 use Rattle.sb_shared.specs.declared.views.View.{View}
-use Rattle.sb_shared.proofs.Advancing.{advance_word, placed_plan, stands_word}
+use Rattle.sb_shared.proofs.Advancing.{advance_word, placed_plan, shown_word, stands_word}
 use Rattle.sb_shared.proofs.Rows.{found_is, shows_exchange, shows_load, shows_store, stop_stays}
 
 spot_is : (lists : List (List ℕ)) (t k : ℕ) (word : Word) → IsWordThere lists t word → IsSpot t word k → k ≡ spot t word.channel word.at
 spot_is lists t k word near is = is near.target near.channel near.low
 
 module _ (laws : Laws) (key : Origin) (slots id : ℕ) (v : View) (out : List (ℕ × Slot)) (p : Part) (one : v.parts ≡ p ∷ []) where
-  module _ (s : State Slot View) (actors : List Actor) (w : WorldAt) (owner : Actor → ℕ)
-      (r : RuleAt key s.words s.homes s.views actors w owner) (at_id : get_elem? s.views id ≡ raw.some v) where
+  abbrev seen_at : ℕ → View → Type 0
+  seen_at n u = IsShown v u (seen_of (plan_in v.key.script.value (first_part v.parts)) n)
+
+  -- with a step after these
+  abbrev after : List Event → List Event
+  after events = events ++ event.Step (actor_in p) ∷ []
+
+  module _ (s : State Slot View) (events : List Event) (w : WorldAt) (owner : Actor → ℕ)
+      (r : RuleAt key s.words s.homes s.views events w owner) (at_id : get_elem? s.views id ≡ raw.some v) where
     abbrev After : ℕ → List ℕ → Type 0
-    After n words = Holds key (record { words = words; homes = s.homes; views = set s.views id (word_view v n) }) × AllStand v.key (word_view v n).parts
+    After n words =
+        Holds key (record { words = words; homes = s.homes; views = set s.views id (word_view v n (after events)) })
+        × AllStand v.key (word_view v n (after events)).parts × seen_at n (word_view v n (after events))
 
     near_to : (a : Act) → plan_in v.key.script.value p ≡ a → IsActThere w.shared.words a
-    near_to a e = subst (IsActThere w.shared.words) e (placed_plan laws key s.words s.homes s.views actors w owner r id v p at_id one)
+    near_to a e = subst (IsActThere w.shared.words) e (placed_plan laws key s.words s.homes s.views events w owner r id v p at_id one)
 
     goes : (a : Act) → plan_in v.key.script.value p ≡ a → is_on_word a ≡ true → (n : ℕ) (words : List ℕ) → (on_word w.shared a).seen ≡ seen_of a n
         → Shows (on_word w.shared a).shared words s.homes → get_or words stop_word 0 ≡ get_or s.words stop_word 0 → After n words
@@ -41,13 +52,14 @@ module _ (laws : Laws) (key : Origin) (slots id : ℕ) (v : View) (out : List (�
         let on_plan = subst (λ z. is_on_word z ≡ true) (sym e) on in
         let seen_plan = subst (λ z. (on_word w.shared z).seen ≡ seen_of z n) (sym e) seen in (
           (
-            actors ++ actor_in p ∷ [],
+            after events,
             step key.script.value w (actor_in p),
             owner,
-            advance_word laws key s.words s.homes s.views actors w owner r id v p at_id one n on_plan seen_plan words
+            advance_word laws key s.words s.homes s.views events w owner r id v p at_id one n on_plan seen_plan words
                 (subst (λ z. Shows (on_word w.shared z).shared words s.homes) (sym e) shows) stop,
           ),
-          stands_word laws key s.words s.homes s.views actors w owner r id v p at_id one n on_plan seen_plan,
+          stands_word laws key s.words s.homes s.views events w owner r id v p at_id one n on_plan seen_plan,
+          shown_word laws key s.words s.homes s.views events w owner r id v p at_id one n on_plan seen_plan,
         )
 
     load_goes : (t k : ℕ) (word : Word) → plan_in v.key.script.value p ≡ act.Load t word → IsSpot t word k → After (get_or s.words k 0) (set s.words k (get_or s.words k 0))
@@ -81,19 +93,19 @@ module _ (laws : Laws) (key : Origin) (slots id : ℕ) (v : View) (out : List (�
   may_load : (t : ℕ) (word : Word) → plan_in v.key.script.value p ≡ act.Load t word → MayStep key slots id (v, out) (act.Load t word)
   may_load t word e k is s h homes at_id small =
       let n : ℕ = get_or s.words k 0 in
-      let after = load_goes s h.0 h.1 h.2 h.3 at_id t k word e is in
-      (word_view v n, keeps, tt, after.0, (refl, after.1))
+      let made = load_goes s h.0 h.1 h.2 h.3 at_id t k word e is in
+      (word_view v n (after h.0), keeps, tt, made.0, (refl, made.1, made.2))
 
   may_store : (t : ℕ) (word : Word) (x : ℕ) → plan_in v.key.script.value p ≡ act.Store t word x → MayStep key slots id (v, out) (act.Store t word x)
   may_store t word x e k is s h homes at_id small =
-      let after = store_goes s h.0 h.1 h.2 h.3 at_id t k x word e is in
-      (word_view v x, keeps, tt, after.0, (refl, after.1))
+      let made = store_goes s h.0 h.1 h.2 h.3 at_id t k x word e is in
+      (word_view v x (after h.0), keeps, tt, made.0, (refl, made.1, made.2))
 
   may_exchange : (t : ℕ) (word : Word) (from to : ℕ) → plan_in v.key.script.value p ≡ act.Exchange t word from to → MayStep key slots id (v, out) (act.Exchange t word from to)
   may_exchange t word from to e k is s h homes at_id small =
       let n : ℕ = get_or s.words k 0 in
-      let after = exchange_goes s h.0 h.1 h.2 h.3 at_id t k from to word e is in
-      (word_view v n, keeps, tt, after.0, (refl, after.1))
+      let made = exchange_goes s h.0 h.1 h.2 h.3 at_id t k from to word e is in
+      (word_view v n (after h.0), keeps, tt, made.0, (refl, made.1, made.2))
 
   -- the step of a seat's actor by its plan; one that is not on a word asks for nothing
   pub may_step : (a : Act) → plan_in v.key.script.value p ≡ a → MayStep key slots id (v, out) a

@@ -1,8 +1,9 @@
 -- The table as it is opened.
-use Rattle.std.proofs.Common.{◌≡◌, ◌∙◌, refl, ap, subst, sym, inl, ℕ, zero, suc, ◌/◌, ◌%◌, ◌<◌, ◌≤◌, Bool, true, false, ◌&&◌, eqb, cond, List, [], ◌∷◌, map, length, get_or, slice_get, Some, arith, nat_lt, slice_index}
+use Rattle.std.proofs.Common.{◌≡◌, ◌∙◌, refl, ap, subst, sym, ℕ, zero, suc, ◌/◌, ◌%◌, ◌<◌, ◌≤◌, Bool, true, false, ◌&&◌, eqb, cond, List, [], ◌∷◌, map, length, get_or, slice_get, Some, arith, nat_lt}
 use Rattle.std.proofs.lemmas.Bool.Decides.{nat_tests}
 use Rattle.std.proofs.lemmas.List.{get_or_past}
 use mathlib.Core.Option as raw
+use mathlib.Core.Option.{some-ne-none}
 use Rattle.sb_actor.specs.Moves.{at}
 use Rattle.sb_book.specs.Histories.{History, new_history, setting_of}
 use Rattle.sb_book.specs.Readiness.{IsReady}
@@ -20,9 +21,7 @@ use Rattle.sb_shared.specs.Opening.{AreFirst, all_actors, first_view}
 use Rattle.sb_shared.specs.Origins.{start_of}
 use Rattle.sb_shared.specs.Parts.{actor_in, part_of}
 use Rattle.sb_shared.specs.Rule.{FitsView, Holds, Slot, spot, stop_word, turn_word, word_count}
-use Rattle.sb_shared.specs.Stops.{Stops}
 use Rattle.sb_shared.specs.declared.views.Origin.{Origin}
-use Rattle.sb_shared.specs.declared.views.View.{View}
 use Rattle.sb_core.proofs.Opening.{opened}
 use Rattle.sb_core.proofs.Starting.{free_length, words_at}
 use Rattle.sb_shared.proofs.Advancing.{only_one}
@@ -85,7 +84,7 @@ opens key words book world running few first_are is =
     let start = start_of key in
     let actors = all_actors script.targets in
     let owner : Actor → ℕ = λ a. 0 in
-    let first : FitsView key start owner 0 (first_view key) = record {
+    let first : FitsView key [] start owner 0 (first_view key) = record {
       parts = λ n p e.
           let a = at_mapped (part_of start) actors n p e in
           let who : actor_in p ≡ a.0 = ap actor_in a.2 ∙ actor_of_part start a.0 in
@@ -94,11 +93,14 @@ opens key words book world running few first_are is =
             is = a.2 ∙ ap (part_of start) (sym who);
             there = ap (is_there script.targets) who ∙ actors_there script.targets n a.0 a.1;
             owned = refl;
+            seen = refl;
           };
       apart = λ m n p q e f d.
           let a = at_mapped (part_of start) actors m p e in
           let b = at_mapped (part_of start) actors n q f in
           λ z. actors_differ script.targets m n a.0 b.0 a.1 b.1 d (sym (ap actor_in a.2 ∙ actor_of_part start a.0) ∙ z ∙ (ap actor_in b.2 ∙ actor_of_part start b.0));
+      history = ([], refl);
+      taken = λ n t e. absurd (some-ne-none t (sym e));
     } in (
       [],
       start,
@@ -115,20 +117,12 @@ opens key words book world running few first_are is =
           turn = behind_first script.targets words few first_are turn_word (omega arith) refl;
           slot = ap (λ (b : History). raw.some (raw.some (Some b))) is;
         };
+        stop = behind_first script.targets words few first_are stop_word (omega arith) refl;
         seats = λ i v e.
             let one = only_one (first_view key ∷ []) (first_view key) v i refl e in
-            subst (λ k. FitsView key start owner k v) (sym one.0) (subst (FitsView key start owner 0) one.1 first);
-        stops = first_stops (slice_index words stop_word) (first_view key) (behind_first script.targets words few first_are stop_word (omega arith) refl) refl refl;
+            subst (λ k. FitsView key [] start owner k v) (sym one.0) (subst (FitsView key [] start owner 0) one.1 first);
       },
     )
-  where
-    first_stops : (word : ℕ) (v : View) → word ≡ 0 → v.stop ≡ 0 → v.seen ≡ 0 → Stops word (v ∷ [])
-    first_stops word v is stop seen = record {
-      small = omega (arith, is);
-      set = λ i u e. subst (λ (z : View). z.stop ≤ word) (only_one (v ∷ []) v u i refl e).1 (omega (arith, stop));
-      seen = λ i u e. subst (λ (z : View). z.seen ≤ word) (only_one (v ∷ []) v u i refl e).1 (omega (arith, seen));
-      by = inl is;
-    }
 
 -- the same for the policies and the script with which the table is made
 pub begins : (key : Origin) (policies : List Policy) (script : Script) → key.policies.value.list ≡ policies → key.script.value ≡ script → StartsKeep

@@ -21,17 +21,20 @@ use Rattle.sb_core.specs.Reports.{results_of}
 use Rattle.sb_core.specs.Threads.{RunAt, first_unfinished, no_run, unfinished_of}
 use Rattle.sb_core.specs.Words.{words_of}
 use Rattle.sb_core.specs.Worlds.{WorldAt, no_worker, run_at, worker_at}
-use Rattle.sb_shared.specs.Closing.{AreFinished, Ends, IsClosed, part_of_thread, part_of_worker}
+use Rattle.sb_shared.specs.Closing.{AreFinished, Ends, IsClosed, part_of_thread, part_of_worker, taken_thread, taken_worker}
 use Rattle.sb_shared.specs.Opening.{target_places, thread_places}
 use Rattle.sb_shared.specs.Parts.{held_by, part_of}
 use Rattle.sb_shared.specs.Rooms.{all_words_from, channel_counts, grouped, thread_counts, words_from}
 use Rattle.sb_shared.specs.Rule.{Slot, spot}
 use Rattle.sb_shared.specs.Seats.{ThreadSeatValue, WorkerSeatValue, thread_in, worker_in}
+use Rattle.sb_shared.specs.Steps.{IsSince}
 use Rattle.sb_shared.specs.declared.closings.ClosedRun.{ClosedRun}
 use Rattle.sb_shared.specs.declared.views.Origin.{Origin}
 use Rattle.sb_shared.specs.declared.views.Part.{Part}
+use Rattle.sb_shared.specs.declared.views.TakenSeat.{TakenSeat}
 use Rattle.sb_shared.proofs.Grouping.{at_left, at_right, grouped_joined, joined, map_joined, same_lengths}
 use Rattle.sb_shared.proofs.Places.{list_is, number_is, rows_are}
+use Rattle.sb_shared.proofs.Ranges.{here_at}
 
 -- elements by their places
 at_map : {A B : Type 0} (f : A → B) (l : List A) (n : ℕ) (a : A) → get_elem? l n ≡ raw.some a → get_elem? (map f l) n ≡ raw.some (f a)
@@ -57,6 +60,9 @@ all_at : {A : Type 0} (P : A → Type 0) (l : List A) (n : ℕ) (a : A) → All 
 all_at P [] n a all e = absurd cc
 all_at P (x ∷ l) zero a all e = subst P (some-injective x a e) (all 0 x (omega arith))
 all_at P (x ∷ l) (suc n) a all e = all_at P l n a (λ k d h. all (suc k) d (omega (arith, h))) e
+
+all_from : {A : Type 0} (P : A → Type 0) (l : List A) → ((n : ℕ) (a : A) → get_elem? l n ≡ raw.some a → P a) → All P l
+all_from P l h = λ k d low. h k (get_or l k d) (here_at l k d low).1
 
 -- if each thread is finished, none is the first that is not
 abbrev AreOver : Script → List RunAt → Type 0
@@ -106,8 +112,9 @@ channels_many targets = length-map (target_places targets) (λ t. channels_of (s
 pub threads_many : (targets : List TargetScript) → length (thread_counts targets) ≡ length targets
 threads_many targets = length-map (target_places targets) (λ t. thread_count (slice_get targets t)) ∙ length-range_with_len 0 (length targets)
 
-module _ (law : WorldsHaveTargets) (key : Origin) (parts : List Part) (rows : List ℕ) (slot : Slot) (e : Ends key parts rows slot)
+module _ (law : WorldsHaveTargets) (key : Origin) (parts : List Part) (taken before : List TakenSeat) (rows : List ℕ) (slot : Slot) (e : Ends key parts taken rows slot)
     (workers : List WorkerSeatValue) (threads : List ThreadSeatValue) (parts_are : parts ≡ map part_of_worker workers ++ map part_of_thread threads)
+    (taken_are : taken ≡ before ++ map taken_worker workers ++ map taken_thread threads)
     (worker_places : map (λ s. s.target) workers ≡ target_places key.script.value.targets)
     (their_places : map (λ s. (s.target, s.thread)) threads ≡ thread_places key.script.value.targets) where
   abbrev targets : List TargetScript
@@ -130,6 +137,17 @@ module _ (law : WorldsHaveTargets) (key : Origin) (parts : List Part) (rows : Li
   thread_stands n s at_n = e.stand (length (map part_of_worker workers) + n) (part_of_thread s)
       (ap (λ (l : List Part). get_elem? l (length (map part_of_worker workers) + n)) parts_are
       ∙ at_right (map part_of_worker workers) (map part_of_thread threads) n (part_of_thread s) (at_map part_of_thread threads n s at_n))
+
+  by_workers : All (λ s. IsSince (part_of_worker s ∷ []) s.history e.events) workers
+  by_workers = all_from (λ s. IsSince (part_of_worker s ∷ []) s.history e.events) workers (λ n s at_n. e.since (length before + n) (taken_worker s)
+      (ap (λ (l : List TakenSeat). get_elem? l (length before + n)) taken_are
+      ∙ at_left (before ++ map taken_worker workers) (map taken_thread threads) (length before + n) (taken_worker s)
+      (at_right before (map taken_worker workers) n (taken_worker s) (at_map taken_worker workers n s at_n))))
+
+  by_threads : All (λ s. IsSince (part_of_thread s ∷ []) s.history e.events) threads
+  by_threads = all_from (λ s. IsSince (part_of_thread s ∷ []) s.history e.events) threads (λ n s at_n. e.since (length (before ++ map taken_worker workers) + n) (taken_thread s)
+      (ap (λ (l : List TakenSeat). get_elem? l (length (before ++ map taken_worker workers) + n)) taken_are
+      ∙ at_right (before ++ map taken_worker workers) (map taken_thread threads) n (taken_thread s) (at_map taken_thread threads n s at_n)))
 
   pub states_are : map (λ s. s.state) workers ≡ w.workers
   states_are =
@@ -219,17 +237,19 @@ module _ (law : WorldsHaveTargets) (key : Origin) (parts : List Part) (rows : Li
           ∙ ap (λ n. map (λ i. slice_index rows (spot (0 + t) (i / 65) (i % 65))) (range_with_len 0 n)) same
 
   pub closed_run : (run : ClosedRun) → run.words ≡ all_words_from rows 0 (channel_counts targets) → run.workers.items ≡ map (λ s. s.state) workers → slot ≡ Some run.book
-      → run.results ≡ grouped (thread_counts targets) (map (λ s. s.run.results) threads) → IsClosed key threads run
+      → run.results ≡ grouped (thread_counts targets) (map (λ s. s.run.results) threads) → IsClosed key workers threads run
   closed_run run words states book results =
       let same : run.book ≡ w.shared.book = the_same run.book w.shared.book (sym book ∙ book_is) in
       record {
-        actors = e.actors;
+        events = e.events;
         world = w;
         there = e.there;
         reached = e.reached;
+        by_workers = by_workers;
+        by_threads = by_threads;
         turn = nobody;
         words = words ∙ words_are;
-        workers = states ∙ states_are;
+        states = states ∙ states_are;
         book = same;
         setting = ap (λ b. b.setting) same ∙ e.setting;
         results = results ∙ results_are;

@@ -7,6 +7,7 @@ use Rattle.sb_core.specs.Laws.{EndsAreRuns, EndsCanFinish}
 use Rattle.sb_core.specs.Reports.{results_of}
 use Rattle.sb_core.specs.Runs.{CanFinish, finished, schedule_of}
 use Rattle.sb_core.specs.Worlds.{no_worker, worker_at}
+use Rattle.sb_shared.specs.Events.{actors_of}
 use Rattle.sb_shared.specs.Runs.{AreLooking, ClosedRunsAreRuns}
 
 -- a worker that is not there looks too
@@ -19,21 +20,22 @@ abbrev Parts : Type 0
 Parts = List (List ℕ) × List WorkerAt × History × List (List (List StmtResult))
 
 pub closed_runs_are_runs : EndsAreRuns → EndsCanFinish → ClosedRunsAreRuns
-closed_runs_are_runs ends can key seats run ready c looking done =
+closed_runs_are_runs ends can key workers seats run ready c looking done =
     let policies = key.policies.value.list in
     let script = key.script.value in
     let w = c.world in
+    let actors = actors_of c.events in
     let over = c.finished done in
-    let end = ends policies script c.actors w ready c.there c.reached over c.turn in
+    let end = ends policies script actors w ready c.there c.reached over c.turn in
     let looks : (t : ℕ) → t < length script.targets → (worker_at w t).stage ≡ Look =
-    λ t l. ap (λ (ws : List WorkerAt). (get_or ws t no_worker).stage) (sym c.workers) ∙ each_looks run.workers.items looking t in
+    λ t l. ap (λ (ws : List WorkerAt). (get_or ws t no_worker).stage) (sym c.states) ∙ each_looks run.workers.items looking t in
     let same : (w.shared.words, w.workers, w.shared.book, results_of w.threads) ≡ (run.words, run.workers.items, run.book, run.results) =
-    λ i. (sym c.words i, sym c.workers i, sym c.book i, sym c.results i) in
+    λ i. (sym c.words i, sym c.states i, sym c.book i, sym c.results i) in
     record {
-      schedule = schedule_of c.actors;
+      schedule = schedule_of actors;
       can = end.can;
       no_rounds = refl;
       unfinished = end.unfinished;
-      finishes = subst (λ (z : Parts). CanFinish script z.0 z.1 z.2 z.3) same (can policies script c.actors w ready c.there c.reached over looks).1;
-      report = (λ i. finished (c.words i) (c.workers i) (c.book i) (c.results i)) ∙ end.finishes;
+      finishes = subst (λ (z : Parts). CanFinish script z.0 z.1 z.2 z.3) same (can policies script actors w ready c.there c.reached over looks).1;
+      report = (λ i. finished (c.words i) (c.states i) (c.book i) (c.results i)) ∙ end.finishes;
     }

@@ -28,11 +28,11 @@ use Rattle.sb_shared.proofs.Standing.{all_stand}
 
 -- a seat before its first step
 abbrev pub seat_of : Origin → Actor → Placed
-seat_of key actor = (record { key = key; parts = part_of (start_of key) actor ∷ []; steps = 0; found = 0; stop = 0; seen = 0; looks = 0 }, [])
+seat_of key actor = (record { key = key; parts = part_of (start_of key) actor ∷ []; found = 0; history = []; taken = [] }, [])
 
 -- the seat with the keeper's first part
 abbrev pub seat_with : KeeperValue → View
-seat_with s = record { key = s.key; parts = front s.parts; steps = 0; found = 0; stop = 0; seen = 0; looks = 0 }
+seat_with s = record { key = s.key; parts = front s.parts; found = 0; history = s.history; taken = [] }
 
 -- a run that is opened with a ready script
 pub opened_with : SoundTargets → SoundStatements → StartsKeep → (key : Origin) (policies : List Policy) (script : Script) → key.policies.value.list ≡ policies

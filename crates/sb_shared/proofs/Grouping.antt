@@ -1,5 +1,5 @@
 -- One list cut into several, and lists joined to one.
-use Rattle.std.proofs.Common.{◌≡◌, ◌∙◌, ◌⊎◌, inl, inr, ⊎_elim, refl, ap, sym, ℕ, zero, suc, ◌+◌, ◌++◌, List, [], ◌∷◌, map, length, arith, flat_map}
+use Rattle.std.proofs.Common.{◌≡◌, ◌∙◌, ◌⊎◌, inl, inr, ⊎_elim, refl, ap, sym, ℕ, zero, suc, ◌+◌, ◌<◌, ◌++◌, List, [], ◌∷◌, map, length, arith, flat_map}
 use Rattle.std.proofs.lemmas.List.{drop_at, length-map, map-append, take_at}
 use mathlib.Core.Option as raw
 use mathlib.Core.Option.{some-injective, some-ne-none}
@@ -24,6 +24,11 @@ same_lengths f (xs ∷ xss) = λ i. length-map xs f i ∷ same_lengths f xss i
 
 -- elements by their places
 module _ {A : Type 0} where
+  pub below_of : (l : List A) (i : ℕ) (a : A) → get_elem? l i ≡ raw.some a → i < length l
+  below_of [] i a e = absurd (some-ne-none a (sym e))
+  below_of (x ∷ xs) zero a e = omega arith
+  below_of (x ∷ xs) (suc i) a e = let h = below_of xs i a e in omega arith
+
   pub at_left : (l m : List A) (n : ℕ) (a : A) → get_elem? l n ≡ raw.some a → get_elem? (l ++ m) n ≡ raw.some a
   at_left [] m n a e = absurd (some-ne-none a (sym e))
   at_left (x ∷ l) m zero a e = e

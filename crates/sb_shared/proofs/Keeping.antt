@@ -24,7 +24,7 @@ use Rattle.sb_shared.proofs.Finishing.{worker_here}
 use Rattle.sb_shared.proofs.Lying.{tried_got, tried_missed}
 
 -- what the plan of a worker says of its stage
-abbrev Facts : Act → WorkerStage → Type 0
+abbrev pub Facts : Act → WorkerStage → Type 0
 Facts act.Take stage = (taken : Copied) × (stage ≡ Take taken)
 Facts act.Answer stage = (taken : Copied) × (stage ≡ Answer taken)
 Facts act.Give stage = has_turn stage ≡ true
@@ -36,7 +36,7 @@ facts_at x (Answer taken) = (taken, refl)
 facts_at x (Give taken reply) = refl
 facts_at x _ = tt
 
-facts : (x : WorkerAt) (a : Act) → worker_plan x ≡ a → Facts a x.stage
+pub facts : (x : WorkerAt) (a : Act) → worker_plan x ≡ a → Facts a x.stage
 facts x a plan = subst (λ z. Facts z x.stage) plan (facts_at x x.stage)
 
 -- a try for the turn keeps the copy
@@ -134,7 +134,7 @@ module _ (me : Placed) (state : WorkerAt) (book : Option History) (d : Option De
       let b : History = taken.0 in
       let outside : after.1 ≡ (0, Some b) ∷ [] = ap (λ (z : Placed). z.1) taken.1 in
       let got_is : got ≡ Some b = ap first_slot (sym out ∙ outside) in
-      let view : last.0 ≡ taken_view me.0 b = ap (λ (z : Placed). z.0) exchanged ∙ ap (λ (z : Placed). z.0) taken.1 in
+      let view : last.0 ≡ taken_view me.0 b after.0.history = ap (λ (z : Placed). z.0) exchanged ∙ ap (λ (z : Placed). z.0) taken.1 in
       let slots : last.1 ≡ (0, None) ∷ [] = ap (λ (z : Placed). z.1) exchanged ∙ ap (λ (l : List (ℕ × Slot)). (0, None) ∷ rest l) outside in
       let parts : last.0.parts ≡ part.Worker x.target (worker_after x.state (seen.Turn true)) (Some b) ∷ [] =
       ap (λ (z : View). z.parts) view ∙ ap (map (shown_part (seen.Turn true) (Some b))) body.worker.one in

@@ -8,14 +8,15 @@ pub mod Ending
 pub mod Finishing
 pub mod Fresh
 pub mod Grouping
+pub mod Happened
 pub mod Keeping
 pub mod Lying
-pub mod Noting
 pub mod Places
 pub mod Ranges
 pub mod Rows
+pub mod Seating
 pub mod Standing
+pub mod Stepping
 pub mod StopSteps
-pub mod Stopping
 pub mod Turning
 pub mod ResultPlaces

@@ -45,11 +45,11 @@ module _ (laws : Laws) (key : Origin) (slots id : ℕ) (me : Placed) (is : IsWor
 
 -- a try that found 0 got a book
 pub tried_got : (s : Step Slot) (me : Placed) (n : ℕ) (after : Placed) → me.1 ≡ [] → n ≡ 0 → Tried s me n after
-    → (book : History) × (after ≡ (taken_view me.0 book, (0, Some book) ∷ []))
+    → (book : History) × (after ≡ (taken_view me.0 book after.0.history, (0, Some book) ∷ []))
 tried_got s me n after empty zero_found t =
     let g = when_true _ _ (eq-eqb n 0 zero_found) t.0 in
-    (g.0, g.1 ∙ ap (λ (l : List (ℕ × Slot)). (taken_view me.0 g.0, (0, Some g.0) ∷ l)) empty)
+    (g.0, g.1 ∙ ap (λ (l : List (ℕ × Slot)). (taken_view me.0 g.0 after.0.history, (0, Some g.0) ∷ l)) empty)
 
 -- another did not
-pub tried_missed : (s : Step Slot) (me : Placed) (n : ℕ) (after : Placed) → n ≢ 0 → Tried s me n after → after ≡ (missed_view me.0 n, me.1)
+pub tried_missed : (s : Step Slot) (me : Placed) (n : ℕ) (after : Placed) → n ≢ 0 → Tried s me n after → after ≡ (missed_view me.0 n after.0.history, me.1)
 tried_missed s me n after some_found t = when_false _ _ (ne_eqb n 0 some_found) t.0

@@ -21,6 +21,7 @@ use Rattle.sb_core.specs.Worlds.{WorldAt, no_worker, run_at, threads_at, worker_
 use Rattle.sb_shared.specs.Parts.{actor_in, held_by, is_on_word, part_of, part_after, plan_in, seen_of}
 use Rattle.sb_shared.specs.Origins.{setting_in}
 use Rattle.sb_shared.specs.Standing.{AllStand, IsThreadHere, IsWorkerHere, Stands}
+use Rattle.sb_shared.specs.Steps.{shown_in}
 use Rattle.sb_shared.specs.declared.views.Origin.{Origin}
 use Rattle.sb_shared.specs.declared.views.Part.{Part}
 use Rattle.sb_shared.specs.declared.views.Part.TheVariants as part
@@ -68,6 +69,11 @@ word_turn s _ = refl
 pub word_book : (s : SharedAt) (a : Act) → (on_word s a).shared.book ≡ s.book
 word_book s (act.Load u word) = refl
 word_book s _ = refl
+
+-- what a step on a word shows
+pub shown_on_word : (script : Script) (w : WorldAt) (p : Part) → is_on_word (plan_in script p) ≡ true → shown_in script w p ≡ (on_word w.shared (plan_in script p)).seen
+shown_on_word script w (part.Worker t state book) on = ap (λ (e : Effect). e.seen) (on_worker_word w.shared t state (worker_plan state) on)
+shown_on_word script w (part.Thread t k state results) on = refl
 
 -- what all share after a step on a word
 pub shared_after : (script : Script) (w : WorldAt) (a : Actor) → is_on_word (plan_of script w a) ≡ true → (step script w a).shared ≡ (on_word w.shared (plan_of script w a)).shared

@@ -20,15 +20,17 @@ use Rattle.sb_core.specs.Shared.{SharedAt, Effect, finds, on_worker, turn_taken,
 use Rattle.sb_core.specs.Worlds.{WorldAt, worker_at, step}
 use Rattle.sb_shared.specs.Laws.{Laws}
 use Rattle.sb_shared.specs.Parts.{answer_to, given_view, held_by, marked_part, marked_view, missed_view, moved_view, part_of, shown_part, taken_view}
-use Rattle.sb_shared.specs.Plays.{Gave, Marked, Placed, Took, Tried}
+use Rattle.sb_shared.specs.Plays.{Gave, IsShown, Marked, Placed, Took, Tried}
 use Rattle.sb_shared.specs.Rule.{FitsPart, Holds, RuleAt, Shows, Slot, slot_of, spot, stop_word, turn_number, turn_word}
 use Rattle.sb_shared.specs.Seats.{worker_in}
 use Rattle.sb_shared.specs.Standing.{AllStand}
+use Rattle.sb_shared.specs.declared.views.Event.{Event}
+use Rattle.sb_shared.specs.declared.views.Event.TheVariants as event
 use Rattle.sb_shared.specs.declared.views.Origin.{Origin}
 use Rattle.sb_shared.specs.declared.views.Part.{Part}
 use Rattle.sb_shared.specs.declared.views.Part.TheVariants as part
 use Rattle.sb_shared.specs.declared.views.View.{View}
-use Rattle.sb_shared.proofs.Advancing.{advance, mine, stands_after}
+use Rattle.sb_shared.proofs.Advancing.{advance, mine, shown, stands_after}
 use Rattle.sb_shared.proofs.Rows.{spot_small}
 use Rattle.sb_shared.proofs.Standing.{worker_moved}
 
@@ -101,12 +103,19 @@ answer_words s t x (Some taken) = refl
 
 module _ (laws : Laws) (key : Origin) (slots id : ℕ) (v : View) (out : List (ℕ × Slot)) (t : ℕ) (x : WorkerAt) (b : Option History) (one : v.parts ≡ part.Worker t x b ∷ []) where
   abbrev Outcome : Bool → ℕ → Placed → Type 0
-  Outcome q n after = MatchBool q (Took (v, out) after) (after ≡ (missed_view v n, out))
+  Outcome q n after = MatchBool q (Took (v, out) after) (after ≡ (missed_view v n after.0.history, out))
 
-  module _ (s : State Slot View) (actors : List Actor) (w : WorldAt) (owner : Actor → ℕ)
-      (r : RuleAt key s.words s.homes s.views actors w owner) (at_id : get_elem? s.views id ≡ raw.some v) where
-    abbrev me_of : FitsPart key w owner id v (part.Worker t x b)
-    me_of = mine laws key s.words s.homes s.views actors w owner r id v (part.Worker t x b) at_id one
+  -- with a step after these
+  abbrev pub after_step : List Event → List Event
+  after_step events = events ++ event.Step (Worker t) ∷ []
+
+  module _ (s : State Slot View) (events : List Event) (w : WorldAt) (owner : Actor → ℕ)
+      (r : RuleAt key s.words s.homes s.views events w owner) (at_id : get_elem? s.views id ≡ raw.some v) where
+    abbrev now : List Event
+    now = after_step events
+
+    abbrev me_of : FitsPart key events w owner id v (part.Worker t x b)
+    me_of = mine laws key s.words s.homes s.views events w owner r id v (part.Worker t x b) at_id one
 
     state_is : x ≡ worker_at w t
     state_is = ap state_in me_of.is
@@ -119,7 +128,8 @@ module _ (laws : Laws) (key : Origin) (slots id : ℕ) (v : View) (out : List (�
         → f (part.Worker t x b) ≡ part.Worker t (worker_after x e.seen) book → held_by e.shared.turn e.shared.book t ≡ book
         → ((u : ℕ) → u ≢ t → held_by e.shared.turn e.shared.book u ≡ held_by w.shared.turn w.shared.book u)
         → (words : List ℕ) (homes : List (raw.Option Slot)) → Shows e.shared words homes → get_or words stop_word 0 ≡ get_or s.words stop_word 0
-        → Holds key (record { words = words; homes = homes; views = set s.views id (moved_view v (map f v.parts) n) }) × AllStand v.key (map f v.parts)
+        → Holds key (record { words = words; homes = homes; views = set s.views id (moved_view v (map f v.parts) n now) }) × AllStand v.key (map f v.parts)
+        × IsShown v (moved_view v (map f v.parts) n now) e.seen
     turns a plan e effect f book n part_is held others words homes shows stop =
         let script = key.script.value in
         let same : on_worker w.shared t (worker_at w t) (worker_plan (worker_at w t)) ≡ e =
@@ -131,23 +141,26 @@ module _ (laws : Laws) (key : Origin) (slots id : ℕ) (v : View) (out : List (�
         (λ i. part.Worker t (moved i) (held_by (shared i).turn (shared i).book t)) ∙ ap (part.Worker t (worker_after x e.seen)) held in
         let parts_after : map f v.parts ≡ f (part.Worker t x b) ∷ [] = ap (map f) one in (
           (
-            actors ++ Worker t ∷ [],
+            now,
             step script w (Worker t),
             owner,
-            advance laws key s.words s.homes s.views actors w owner r id v (part.Worker t x b) at_id one
-                (moved_view v (map f v.parts) n) (f (part.Worker t x b)) words homes refl parts_after refl refl (part_is ∙ sym mine_after)
+            advance laws key s.words s.homes s.views events w owner r id v (part.Worker t x b) at_id one
+                (moved_view v (map f v.parts) n now) (f (part.Worker t x b)) words homes refl parts_after refl refl (part_is ∙ sym mine_after)
                 (subst (λ z. Shows z words homes) (sym shared) shows) stop
                 (λ u apart. (λ i. held_by (shared i).turn (shared i).book u) ∙ others u (λ q. apart (ap Worker (sym q)))),
           ),
-          stands_after laws key s.words s.homes s.views actors w owner r id v (part.Worker t x b) at_id one
-              (moved_view v (map f v.parts) n) (f (part.Worker t x b)) refl parts_after (part_is ∙ sym mine_after),
+          stands_after laws key s.words s.homes s.views events w owner r id v (part.Worker t x b) at_id one
+              (moved_view v (map f v.parts) n now) (f (part.Worker t x b)) refl parts_after (part_is ∙ sym mine_after),
+          shown laws key s.words s.homes s.views events w owner r id v (part.Worker t x b) at_id one
+              (moved_view v (map f v.parts) n now) (f (part.Worker t x b)) parts_after refl (part_is ∙ sym mine_after) e.seen
+              (sym ((λ i. (on_worker w.shared t x (plan i)).seen) ∙ ap (λ (z : Effect). z.seen) effect)),
         )
 
     -- a try to take the turn
     abbrev TryLeaves : Bool → Type 0
     TryLeaves q =
         (u : View) × (a : TableAct Slot) × Valid s.homes out a × Holds key (stepped s turn_word (either q (t + 1) (get_or s.words turn_word 0)) id out u a)
-        × (Outcome q (get_or s.words turn_word 0) (u, carried_after out a) × AllStand u.key u.parts)
+        × (Outcome q (get_or s.words turn_word 0) (u, carried_after out a) × AllStand u.key u.parts × IsShown v u (seen.Turn q))
 
     tried : worker_plan x ≡ act.Take → b ≡ None → (q : Bool) → eqb (get_or s.words turn_word 0) 0 ≡ q → TryLeaves q
     tried plan without true e =
@@ -163,7 +176,7 @@ module _ (laws : Laws) (key : Origin) (slots id : ℕ) (v : View) (out : List (�
         (set s.words turn_word (t + 1)) (set s.homes 0 raw.none)
         (shows_turn w.shared s.words s.homes (set s.homes 0 raw.none) r.shows (Some t) book (first_set s.homes (raw.some (Some book)) raw.none there))
         (stop_kept s.words (t + 1)) in
-        (taken_view v book, takes 0 (Some book), there, turned.0, ((book, refl), turned.1))
+        (taken_view v book now, takes 0 (Some book), there, turned.0, ((book, refl), turned.1, turned.2))
     tried plan without false e =
         let n : ℕ = get_or s.words turn_word 0 in
         let held_word : n ≢ 0 = λ z. grind (arith, nat_tests, e, z) in
@@ -176,7 +189,7 @@ module _ (laws : Laws) (key : Origin) (slots id : ℕ) (v : View) (out : List (�
         ∙ (λ i. finds (seen.Turn false) (record w.shared { turn = sym holder.1 i })))
         (shown_part (seen.Turn false) None) None n refl mine_none (λ u ne. refl)
         (set s.words turn_word n) s.homes (subst (λ z. Shows w.shared z s.homes) (sym (set-get_or s.words turn_word 0)) r.shows) (stop_kept s.words n) in
-        (missed_view v n, keeps, tt, turned.0, (refl, turned.1))
+        (missed_view v n now, keeps, tt, turned.0, (refl, turned.1, turned.2))
 
   pub try_allowed : worker_plan x ≡ act.Take → b ≡ None → Allows (Holds key) slots id (v, out) turn_word (λ n. either (eqb n 0) (t + 1) n) (Tried (made slots turn_word 0 (t + 1) raw.none) (v, out))
   try_allowed plan without s h homes at_id small = tried s h.0 h.1 h.2 h.3 at_id plan without (eqb (get_or s.words turn_word 0) 0) refl
@@ -187,6 +200,7 @@ module _ (laws : Laws) (key : Origin) (slots id : ℕ) (v : View) (out : List (�
   mark_allowed plan s h homes at_id small =
       let w = h.1 in
       let r = h.3 in
+      let now : List Event = h.0 ++ event.Step (Worker t) ∷ [] in
       let n : ℕ = get_or s.words turn_word 0 in
       let holder = holder_is w.shared.turn book w.shared.book t (book_is laws key slots id v out t x (Some book) one s h.0 w h.2 r at_id) in
       let c = taken_in x.stage in
@@ -210,12 +224,13 @@ module _ (laws : Laws) (key : Origin) (slots id : ℕ) (v : View) (out : List (�
         slot = r.shows.slot ∙ (λ i. raw.some (slot_of (holder.0 i) w.shared.book)) ∙ sym (λ i. raw.some (slot_of (turn i) e.shared.book));
       }))
       (stop_kept s.words n) in
-      (marked_view v n, keeps, tt, turned.0, (refl, turned.1))
+      (marked_view v n now, keeps, tt, turned.0, (refl, turned.1, turned.2.0))
 
   pub give_allowed : worker_plan x ≡ act.Give → out ≡ (0, Some book) ∷ [] → Allows (Holds key) slots id (v, out) turn_word (λ _. 0) (λ _. Gave (made slots turn_word 0 0 raw.none) (v, out) 0)
   give_allowed plan back s h homes at_id small =
       let w = h.1 in
       let r = h.3 in
+      let now : List Event = h.0 ++ event.Step (Worker t) ∷ [] in
       let holder = holder_is w.shared.turn book w.shared.book t (book_is laws key slots id v out t x (Some book) one s h.0 w h.2 r at_id) in
       let after : SharedAt = record { words = w.shared.words; turn = None; book = w.shared.book } in
       let out_there : get_elem? s.homes 0 ≡ raw.some raw.none = r.shows.slot ∙ ap (λ o. raw.some (slot_of o w.shared.book)) holder.0 in
@@ -229,4 +244,4 @@ module _ (laws : Laws) (key : Origin) (slots id : ℕ) (v : View) (out : List (�
       (first_set s.homes raw.none (raw.some (Some book)) out_there ∙ ap (λ (k : History). raw.some (raw.some (Some k))) holder.1))
       (stop_kept s.words 0) in
       subst (λ (o : List (ℕ × Slot)). (u : View) × (a : TableAct Slot) × Valid s.homes o a × Holds key (stepped s turn_word 0 id o u a) × Gave (made slots turn_word 0 0 raw.none) (v, o) 0 (u, carried_after o a)) (sym back)
-      (given_view v, gives, tt, turned.0, (refl, turned.1))
+      (given_view v now, gives, tt, turned.0, (refl, turned.1, turned.2.0))

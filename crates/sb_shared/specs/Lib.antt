@@ -1,4 +1,5 @@
 pub mod Closing
+pub mod Events
 pub mod Keeping
 pub mod Laws
 pub mod Making
@@ -11,5 +12,6 @@ pub mod Rule
 pub mod Runs
 pub mod Seats
 pub mod Standing
+pub mod Steps
 pub mod Stops
 pub mod Waiting

@@ -32,7 +32,7 @@ all_actors targets = map Worker (target_places targets) ++ map thread_of (thread
 
 -- the first seat has all actors
 abbrev pub first_view : Origin → View
-first_view key = record { key = key; parts = map (part_of (start_of key)) (all_actors key.script.value.targets); steps = 0; found = 0; stop = 0; seen = 0; looks = 0 }
+first_view key = record { key = key; parts = map (part_of (start_of key)) (all_actors key.script.value.targets); found = 0; history = []; taken = [] }
 
 -- the word at a place: each state is free, and all else is 0
 abbrev pub first_word : List TargetScript → ℕ → ℕ

@@ -1,5 +1,5 @@
 -- The parts of a world that seats hold: each is where one actor is. And what a step on a word does to a part.
-use Rattle.std.specs.Prelude.{ℕ, ◌+◌, max, Bool, true, false, ◌==◌, ◌&&◌, List, [], ◌++◌, map, Option, None, Some, if◌then◌else◌, option_to_list}
+use Rattle.std.specs.Prelude.{ℕ, Bool, true, false, ◌==◌, List, [], ◌∷◌, ◌++◌, map, Option, None, Some, if◌then◌else◌, option_to_list}
 use Rattle.sb_actor.specs.ThreadTable.{thread_plan, thread_after}
 use Rattle.sb_actor.specs.WorkerTable.{worker_plan, worker_after, taken_in}
 use Rattle.sb_actor.specs.declared.acts.Act.{Act}
@@ -12,7 +12,8 @@ use Rattle.sb_statements.specs.declared.schedules.Actor.{Actor}
 use Rattle.sb_statements.specs.declared.schedules.Actor.TheVariants.{Worker, Thread}
 use Rattle.sb_statements.specs.declared.scripts.Script.{Script}
 use Rattle.sb_core.specs.Shared.{Effect, on_answer}
-use Rattle.sb_core.specs.Worlds.{WorldAt, worker_at, run_at}
+use Rattle.sb_core.specs.Worlds.{WorldAt, no_worker, worker_at, run_at}
+use Rattle.sb_shared.specs.declared.views.Event.{Event}
 use Rattle.sb_shared.specs.declared.views.Part.{Part}
 use Rattle.sb_shared.specs.declared.views.Part.TheVariants as part
 use Rattle.sb_shared.specs.declared.views.View.{View}
@@ -50,13 +51,18 @@ part_after script (part.Thread target thread state results) n =
     part.Thread target thread (thread_after script state (seen_of (thread_plan script state) n)).thread
     (results ++ option_to_list (thread_after script state (seen_of (thread_plan script state) n)).ended)
 
--- a view after a step that found n, with these parts
-abbrev pub moved_view : View → List Part → ℕ → View
-moved_view v parts n = record v { parts = parts; steps = v.steps + 1; found = n }
+-- the one part of a seat
+abbrev pub first_part : List Part → Part
+first_part [] = part.Worker 0 no_worker None
+first_part (p ∷ more) = p
+
+-- a view after a step that found n, with these parts, once this has happened
+abbrev pub moved_view : View → List Part → ℕ → List Event → View
+moved_view v parts n now = record v { parts = parts; found = n; history = now; taken = [] }
 
 -- and after a step on a word
-abbrev pub word_view : View → ℕ → View
-word_view v n = moved_view v (map (λ p. part_after v.key.script.value p n) v.parts) n
+abbrev pub word_view : View → ℕ → List Event → View
+word_view v n now = moved_view v (map (λ p. part_after v.key.script.value p n) v.parts) n now
 
 -- the part of a worker after a step that showed it this, with the book that it has then
 abbrev pub shown_part : Observation → Option History → Part → Part
@@ -74,25 +80,21 @@ marked_part (part.Worker target state (Some book)) =
 marked_part (part.Worker target state None) = part.Worker target state None
 marked_part (part.Thread target thread state results) = part.Thread target thread state results
 
-abbrev pub taken_view : View → History → View
-taken_view v book = moved_view v (map (shown_part (seen.Turn true) (Some book)) v.parts) 0
+abbrev pub taken_view : View → History → List Event → View
+taken_view v book now = moved_view v (map (shown_part (seen.Turn true) (Some book)) v.parts) 0 now
 
-abbrev pub missed_view : View → ℕ → View
-missed_view v n = moved_view v (map (shown_part (seen.Turn false) None) v.parts) n
+abbrev pub missed_view : View → ℕ → List Event → View
+missed_view v n now = moved_view v (map (shown_part (seen.Turn false) None) v.parts) n now
 
-abbrev pub marked_view : View → ℕ → View
-marked_view v n = moved_view v (map marked_part v.parts) n
+abbrev pub marked_view : View → ℕ → List Event → View
+marked_view v n now = moved_view v (map marked_part v.parts) n now
 
-abbrev pub given_view : View → View
-given_view v = moved_view v (map (shown_part seen.Done None) v.parts) 0
+abbrev pub given_view : View → List Event → View
+given_view v now = moved_view v (map (shown_part seen.Done None) v.parts) 0 now
 
--- after a look at the stop word that found n: it is counted
-abbrev pub looked_view : View → ℕ → View
-looked_view v n = record v { seen = max v.seen n; looks = v.looks + 1 }
-
--- after the seat set stop n
-abbrev pub stopped_view : View → ℕ → View
-stopped_view v n = record v { stop = max v.stop n }
+-- after a step on the stop word
+abbrev pub told_view : View → List Event → View
+told_view v now = record v { history = now }
 
 -- the step is on a word
 abbrev pub is_on_word : Act → Bool
@@ -100,9 +102,3 @@ is_on_word (act.Load t word) = true
 is_on_word (act.Store t word value) = true
 is_on_word (act.Exchange t word from to) = true
 is_on_word _ = false
-
--- the same actor
-abbrev pub is_same : Actor → Actor → Bool
-is_same (Worker t) (Worker u) = t == u
-is_same (Thread t k) (Thread u l) = t == u && k == l
-is_same _ _ = false

@@ -1,15 +1,22 @@
 -- What each step on a word of the table tells its seat, and what a seat may do.
-use Rattle.std.specs.Prelude.{◌≡◌, ◌<◌, ◌≤◌, ℕ, ◌==◌, [], ◌∷◌, Some, MatchBool}
+use Rattle.std.specs.Prelude.{◌≡◌, ◌<◌, ◌≤◌, ℕ, ◌==◌, ◌++◌, List, [], ◌∷◌, Some, MatchBool}
 use mathlib.Core.Option as raw
 use prog.Atomic.{either}
 use Rattle.atomic_table.specs.Table.{Step, Me, step, Allows}
 use Rattle.sb_actor.specs.declared.acts.Act.{Act}
 use Rattle.sb_actor.specs.declared.acts.Act.TheVariants as act
+use Rattle.sb_actor.specs.Observations.{Observation}
+use Rattle.sb_actor.specs.Observations as seen
 use Rattle.sb_book.specs.Histories.{History}
 use Rattle.sb_statements.specs.declared.statements.Word.{Word}
-use Rattle.sb_shared.specs.Parts.{word_view, taken_view, missed_view, marked_view, given_view, looked_view, stopped_view}
+use Rattle.sb_shared.specs.Events.{stop_in, world_in}
+use Rattle.sb_shared.specs.Parts.{first_part, given_view, marked_view, missed_view, plan_in, seen_of, taken_view, told_view, word_view}
 use Rattle.sb_shared.specs.Rule.{Slot, Holds, spot}
 use Rattle.sb_shared.specs.Standing.{AllStand}
+use Rattle.sb_shared.specs.Steps.{IsSince, IsStep, shown_in}
+use Rattle.sb_shared.specs.declared.stops.Stop.TheVariants.{Finished, OutOfMemory}
+use Rattle.sb_shared.specs.declared.views.Event.{Event}
+use Rattle.sb_shared.specs.declared.views.Event.TheVariants as event
 use Rattle.sb_shared.specs.declared.views.Origin.{Origin}
 use Rattle.sb_shared.specs.declared.views.View.{View}
 
@@ -21,37 +28,51 @@ Placed = Me Slot View
 abbrev pub Stand : Placed → Type 0
 Stand me = AllStand me.0.key me.0.parts
 
+-- the actor of a seat made one step of the core, which left the seat with the second view
+pub record IsMade (v u : View) : Type 0 where
+  pub before : List Event
+  pub core : IsStep v.key (first_part v.parts) (first_part u.parts) v.history before u.history
+
+-- and saw what the core's step shows it
+abbrev pub IsShown : View → View → Observation → Type 0
+IsShown v u seen = (m : IsMade v u) × (seen ≡ shown_in v.key.script.value (world_in v.key m.before) (first_part v.parts))
+
 -- the actor made its step on a word, and found n there
 abbrev pub Stepped : Step Slot → Placed → ℕ → Placed → Type 0
-Stepped s me n after = (after ≡ (word_view me.0 n, me.1)) × Stand after
+Stepped s me n after =
+    (after ≡ (word_view me.0 n after.0.history, me.1)) × Stand after × IsShown me.0 after.0 (seen_of (plan_in me.0.key.script.value (first_part me.0.parts)) n)
 
 -- the turn was taken, and the book with its place
 abbrev pub Took : Placed → Placed → Type 0
-Took me after = (book : History) × (after ≡ (taken_view me.0 book, (0, Some book) ∷ me.1))
+Took me after = (book : History) × (after ≡ (taken_view me.0 book after.0.history, (0, Some book) ∷ me.1))
 
 -- a try that found 0 took the turn, and another did not
 abbrev pub Tried : Step Slot → Placed → ℕ → Placed → Type 0
-Tried s me n after = MatchBool (n == 0) (Took me after) (after ≡ (missed_view me.0 n, me.1)) × Stand after
+Tried s me n after =
+    MatchBool (n == 0) (Took me after) (after ≡ (missed_view me.0 n after.0.history, me.1)) × Stand after × IsShown me.0 after.0 (seen.Turn (n == 0))
 
 -- the book answered
 abbrev pub Marked : Step Slot → Placed → ℕ → Placed → Type 0
-Marked s me n after = (after ≡ (marked_view me.0 n, me.1)) × Stand after
+Marked s me n after = (after ≡ (marked_view me.0 n after.0.history, me.1)) × Stand after × IsMade me.0 after.0
 
 -- the turn was given back, and the book lies in its place
 abbrev pub Gave : Step Slot → Placed → ℕ → Placed → Type 0
-Gave s me n after = (after ≡ (given_view me.0, [])) × Stand after
+Gave s me n after = (after ≡ (given_view me.0 after.0.history, [])) × Stand after × IsMade me.0 after.0
 
--- the stop word was n
+-- the seat saw the stops that were set before
 abbrev pub Looked : Step Slot → Placed → ℕ → Placed → Type 0
-Looked s me n after = (n ≤ 2) × (after ≡ (looked_view me.0 n, me.1))
+Looked s me n after =
+    (n ≤ 2) × (before : List Event) × IsSince me.0.parts me.0.history before × (n ≡ stop_in before) × (after ≡ (told_view me.0 (before ++ event.Look ∷ []), me.1))
 
--- the seat set stop 1
+-- the seat set a stop
+abbrev pub Told : Event → Placed → Placed → Type 0
+Told e me after = (before : List Event) × IsSince me.0.parts me.0.history before × (after ≡ (told_view me.0 (before ++ e ∷ []), me.1))
+
 abbrev pub Ended : Step Slot → Placed → ℕ → Placed → Type 0
-Ended s me n after = after ≡ (stopped_view me.0 1, me.1)
+Ended s me n after = Told (event.Stop Finished) me after
 
--- the seat set stop 2
 abbrev pub Failed : Step Slot → Placed → ℕ → Placed → Type 0
-Failed s me n after = after ≡ (stopped_view me.0 2, me.1)
+Failed s me n after = Told (event.Stop OutOfMemory) me after
 
 -- k is the place of a word among those of the table, if the word is one of a channel that can be
 abbrev pub IsSpot : ℕ → Word → ℕ → Type 0

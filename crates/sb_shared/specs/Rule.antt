@@ -1,4 +1,4 @@
--- The rule of the table: its words, its slot and what the seats know are those of a world that some steps lead to.
+-- The rule of the table: its words, its slot and what the seats know are those of a world to which one list of events leads, of which each seat has seen a beginning.
 use Rattle.std.specs.Prelude.{◌≡◌, ◌≢◌, ◌<◌, ℕ, ◌+◌, ◌*◌, true, List, Option, None, Some, length, slice_index}
 use mathlib.Core.Option as raw
 use lib.ListN.{get_elem?}
@@ -11,12 +11,15 @@ use Rattle.sb_core.specs.Actors.{are_there}
 use Rattle.sb_core.specs.Kept.{IsWorld, IsRunning}
 use Rattle.sb_core.specs.Shared.{SharedAt}
 use Rattle.sb_core.specs.Words.{words_of}
-use Rattle.sb_core.specs.Worlds.{WorldAt, steps}
-use Rattle.sb_shared.specs.Origins.{setting_in, start_of}
+use Rattle.sb_core.specs.Worlds.{WorldAt}
+use Rattle.sb_shared.specs.Events.{Begins, actors_of, steps_of, stop_in, world_in}
+use Rattle.sb_shared.specs.Origins.{setting_in}
 use Rattle.sb_shared.specs.Parts.{actor_in, part_of}
-use Rattle.sb_shared.specs.Stops.{Stops}
+use Rattle.sb_shared.specs.Steps.{IsSince}
+use Rattle.sb_shared.specs.declared.views.Event.{Event}
 use Rattle.sb_shared.specs.declared.views.Origin.{Origin}
 use Rattle.sb_shared.specs.declared.views.Part.{Part}
+use Rattle.sb_shared.specs.declared.views.TakenSeat.{TakenSeat}
 use Rattle.sb_shared.specs.declared.views.View.{View}
 
 -- where word j of channel c of target t lies among the words of the table
@@ -55,30 +58,39 @@ pub record Shows (s : SharedAt) (words : List ℕ) (homes : List (raw.Option Slo
   pub turn : slice_index words turn_word ≡ turn_number s.turn
   pub slot : get_elem? homes 0 ≡ raw.some (slot_of s.turn s.book)
 
-module _ (key : Origin) (w : WorldAt) (owner : Actor → ℕ) where
-  -- a part of seat i is that of the world, and no other seat has it
+module _ (key : Origin) (events : List Event) (w : WorldAt) (owner : Actor → ℕ) where
+  -- a part of seat i is that of the world, no other seat has it, and the seat has seen all steps of its actor
   pub record FitsPart (i : ℕ) (v : View) (p : Part) : Type 0 where
     pub key_is : v.key ≡ key
     pub is : p ≡ part_of w (actor_in p)
     pub there : is_there key.script.value.targets (actor_in p) ≡ true
     pub owned : owner (actor_in p) ≡ i
+    pub seen : steps_of (actor_in p) events ≡ steps_of (actor_in p) v.history
 
+  -- a seat that was taken in by seat i has seen all steps of its actors
+  pub record FitsTaken (i : ℕ) (t : TakenSeat) : Type 0 where
+    pub since : IsSince t.parts t.history events
+    pub owned : (n : ℕ) (p : Part) → get_elem? t.parts n ≡ raw.some p → owner (actor_in p) ≡ i
+
+  -- what the seat has seen is what happened first
   pub record FitsView (i : ℕ) (v : View) : Type 0 where
     pub parts : (n : ℕ) (p : Part) → get_elem? v.parts n ≡ raw.some p → FitsPart i v p
     pub apart : (m n : ℕ) (p q : Part) → get_elem? v.parts m ≡ raw.some p → get_elem? v.parts n ≡ raw.some q → m ≢ n → actor_in p ≢ actor_in q
+    pub history : Begins v.history events
+    pub taken : (n : ℕ) (t : TakenSeat) → get_elem? v.taken n ≡ raw.some t → FitsTaken i t
 
--- from the start on these actors made their steps, in turn, which led to world w
+-- this has happened from the start on, which led to world w
 pub record RuleAt (key : Origin) (words : List ℕ) (homes : List (raw.Option Slot)) (views : List View)
-    (actors : List Actor) (w : WorldAt) (owner : Actor → ℕ) : Type 0 where
-  pub reached : w ≡ steps key.script.value actors (start_of key)
-  pub there : are_there key.script.value.targets actors ≡ true
+    (events : List Event) (w : WorldAt) (owner : Actor → ℕ) : Type 0 where
+  pub reached : w ≡ world_in key events
+  pub there : are_there key.script.value.targets (actors_of events) ≡ true
   pub world : IsWorld w
   pub running : IsRunning key.script.value w
   pub setting : w.shared.book.setting ≡ setting_in key
   pub shows : Shows w.shared words homes
-  pub seats : (i : ℕ) (v : View) → get_elem? views i ≡ raw.some v → FitsView key w owner i v
-  pub stops : Stops (slice_index words stop_word) views
+  pub stop : slice_index words stop_word ≡ stop_in events
+  pub seats : (i : ℕ) (v : View) → get_elem? views i ≡ raw.some v → FitsView key events w owner i v
 
 -- the rule of the table
 abbrev pub Holds : Origin → State Slot View → Type 0
-Holds key s = (actors : List Actor) × (w : WorldAt) × (owner : Actor → ℕ) × RuleAt key s.words s.homes s.views actors w owner
+Holds key s = (events : List Event) × (w : WorldAt) × (owner : Actor → ℕ) × RuleAt key s.words s.homes s.views events w owner

@@ -5,7 +5,7 @@ use Rattle.sb_book.specs.Readiness.{IsReady}
 use Rattle.sb_statements.specs.declared.schedules.Schedule.{Schedule}
 use Rattle.sb_core.specs.Runs.{CanFinish, CanRun, finished, ran}
 use Rattle.sb_shared.specs.Closing.{AreFinished, IsClosed}
-use Rattle.sb_shared.specs.Seats.{ThreadSeatValue}
+use Rattle.sb_shared.specs.Seats.{ThreadSeatValue, WorkerSeatValue}
 use Rattle.sb_shared.specs.declared.closings.ClosedRun.{ClosedRun}
 use Rattle.sb_shared.specs.declared.views.Origin.{Origin}
 
@@ -25,5 +25,5 @@ pub record IsRun (key : Origin) (run : ClosedRun) : Type 0 where
 
 -- a closed run in which each thread has ended and each worker is looking is a run of the script by some schedule
 abbrev pub ClosedRunsAreRuns : Type 0
-ClosedRunsAreRuns = (key : Origin) (seats : List ThreadSeatValue) (run : ClosedRun) → IsReady key.policies.value.list key.script.value
-    → IsClosed key seats run → AreLooking run.workers.items → AreFinished key seats → IsRun key run
+ClosedRunsAreRuns = (key : Origin) (workers : List WorkerSeatValue) (seats : List ThreadSeatValue) (run : ClosedRun) → IsReady key.policies.value.list key.script.value
+    → IsClosed key workers seats run → AreLooking run.workers.items → AreFinished key seats → IsRun key run

@@ -1,7 +1,7 @@
 // A shared world is closed.
 ghost use Rattle.std.specs.Prelude.{◌≡◌, ◌≤◌, ◌++◌, ℕ, List, length, map, All};
 ghost use Rattle.core.specs.Mem.Slots.{IsFull, slots_items, slots_len};
-ghost use Rattle.sb_shared.specs.Closing.{AreThreads, AreWorkers, Ends, IsClosed, IsKeeper, IsThreadSeat, IsWorkerSeat, part_of_thread, part_of_worker};
+ghost use Rattle.sb_shared.specs.Closing.{AreThreads, AreWorkers, Ends, IsClosed, IsKeeper, IsThreadSeat, IsWorkerSeat, part_of_thread, part_of_worker, taken_thread, taken_worker};
 ghost use Rattle.sb_shared.specs.Rooms.{IsRoom, all_words_from, grouped};
 ghost use Rattle.sb_shared.specs.Rule.{word_count};
 
@@ -46,6 +46,7 @@ fn join_workers(
     requires room { IsRoom (length seats.items) room }
     ensures own { (keeper.new.table ≡ keeper.old.table) × (keeper.new.key ≡ keeper.old.key) }
     ensures parts { keeper.new.parts ≡ keeper.old.parts ++ map part_of_worker seats.items }
+    ensures taken { keeper.new.taken ≡ keeper.old.taken ++ map taken_worker seats.items }
     ensures states { result.items ≡ map (λ s. s.state) seats.items }
 {
     let mut states = room;
@@ -70,6 +71,7 @@ fn join_threads(
     requires room { IsRoom (length seats.items) room }
     ensures own { (keeper.new.table ≡ keeper.old.table) × (keeper.new.key ≡ keeper.old.key) }
     ensures parts { keeper.new.parts ≡ keeper.old.parts ++ map part_of_thread seats.items }
+    ensures taken { keeper.new.taken ≡ keeper.old.taken ++ map taken_thread seats.items }
     ensures results { result.items ≡ map (λ s. s.run.results) seats.items }
 {
     let mut results = room;
@@ -112,7 +114,7 @@ fn end_table(
     requires counts { (table.shared.table_id.words ≡ word_count) × (table.shared.table_id.slots ≡ 1) }
     requires few { length rooms.items ≤ 8 }
     requires room { IsRoom (length rooms.items) room }
-    ensures { (rows : List ℕ) × (result.0.items ≡ all_words_from rows 0 rooms.items) × Ends table.shared.key keeper.parts rows result.1 }
+    ensures { (rows : List ℕ) × (result.0.items ≡ all_words_from rows 0 rooms.items) × Ends table.shared.key keeper.parts keeper.taken rows result.1 }
 {
     let mut closed = table.close_with(keeper.into_seat());
     let words = take_words(&closed, rooms, room);
@@ -145,7 +147,7 @@ impl SharedWorld {
         requires keeper { IsKeeper self keeper }
         requires workers { AreWorkers self workers.items }
         requires threads { AreThreads self threads.items }
-        ensures closed { IsClosed self.key threads.items result }
+        ensures closed { IsClosed self.key workers.items threads.items result }
         ensures workers { result.workers.items ≡ map (λ s. s.state) workers.items }
     {
         plans_are_there();

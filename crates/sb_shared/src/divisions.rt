@@ -1,7 +1,8 @@
 // Seats are made of the keeper's seat, and taken in by it.
-ghost use Rattle.std.specs.Prelude.{◌≡◌, ◌∷◌, ◌++◌, [], List, max};
+ghost use Rattle.std.specs.Prelude.{◌≡◌, ◌∷◌, ◌++◌, [], List};
 ghost use Rattle.sb_shared.specs.Rule.{word_count};
-ghost use Rattle.sb_shared.specs.Closing.{front, later_parts};
+ghost use Rattle.sb_shared.specs.Closing.{front, later_parts, taken_of};
+ghost use Rattle.sb_shared.specs.Events.{longer};
 ghost use Rattle.sb_shared.specs.declared.views.Part.{Part};
 
 use crate::keepers::Keeper;
@@ -16,8 +17,8 @@ impl Keeper {
         requires own { (self.old.table ≡ words.now.table_id) × (words.now.table_id.words ≡ word_count) }
         requires key { self.old.key ≡ words.now.key }
         requires first { (p : Part) × (more : List Part) × (self.old.parts ≡ p ∷ more) }
-        ensures same { self.new ≡ record self.old { parts = later_parts self.old.parts } }
-        ensures seat { (result.table_id ≡ self.old.table) × (result.me ≡ (record { key = self.old.key; parts = front self.old.parts; steps = 0; found = 0; stop = 0; seen = 0; looks = 0 }, [])) }
+        ensures same { self.new ≡ record self.old { parts = later_parts self.old.parts; taken = [] } }
+        ensures seat { (result.table_id ≡ self.old.table) × (result.me ≡ (record { key = self.old.key; parts = front self.old.parts; found = 0; history = self.old.history; taken = [] }, [])) }
     {
         words.split_seat::<Parts>(&mut self.seat)
     }
@@ -27,7 +28,7 @@ impl Keeper {
         requires own { (self.old.table ≡ words.now.table_id) × (words.now.table_id.words ≡ word_count) }
         requires key { self.old.key ≡ words.now.key }
         requires seat { (seat.table_id ≡ words.now.table_id) × (seat.me.0.key ≡ words.now.key) × (seat.me.1 ≡ []) }
-        ensures joined { self.new ≡ record self.old { parts = self.old.parts ++ seat.me.0.parts; stop = max self.old.stop seat.me.0.stop; seen = max self.old.seen seat.me.0.seen } }
+        ensures joined { self.new ≡ record self.old { parts = self.old.parts ++ seat.me.0.parts; history = longer self.old.history seat.me.0.history; taken = self.old.taken ++ taken_of seat.me.0 ∷ [] } }
     {
         words.join_seat::<Parts>(&mut self.seat, seat);
     }

@@ -1,13 +1,13 @@
 // One atomic step of a seat of any kind: on a word of a channel, or on the stop word.
-ghost use Rattle.std.specs.Prelude.{◌≡◌, ℕ, true, false, MatchOption, Some};
+ghost use Rattle.std.specs.Prelude.{◌≡◌, ◌++◌, ◌∷◌, [], ℕ, List, true, false, MatchOption};
 ghost use Rattle.atomic_table.specs.Table.{Allows, step};
 ghost use mathlib.Core.Option as raw;
 ghost use prog.Atomic.{either};
 ghost use Rattle.sb_actor.specs.Acts.{observation};
-ghost use Rattle.sb_shared.specs.Parts.{is_on_word, looked_view, seen_of, stopped_view, word_view};
-ghost use Rattle.sb_shared.specs.Plays.{MayStep, Stand};
+ghost use Rattle.sb_shared.specs.Parts.{first_part, is_on_word, plan_in, seen_of, told_view, word_view};
+ghost use Rattle.sb_shared.specs.Plays.{IsShown, MayStep, Stand};
 ghost use Rattle.sb_shared.specs.Rule.{stop_word, word_count};
-ghost use Rattle.sb_shared.specs.Stops.{stop_number};
+ghost use Rattle.sb_shared.specs.Seats.{IsLook, IsStop};
 
 use crate::layout::{STOP, index_of};
 use crate::protocol::{Ends, Fails, Looks, Slot, Steps, World};
@@ -26,7 +26,7 @@ pub(crate) fn perform(words: &Words, seat: &mut Seat<Slot, View>, act: Act) -> O
     requires count { words.now.table_id.words ≡ word_count }
     requires may { MayStep words.now.key words.now.table_id.slots seat.old.id seat.old.me act }
     ensures own { (seat.new.table_id ≡ seat.old.table_id) × (seat.new.id ≡ seat.old.id) }
-    ensures moved { MatchOption result ((is_on_word act ≡ false) × (seat.new.me ≡ seat.old.me)) (λ seen. (is_on_word act ≡ true) × Stand seat.new.me × ((n : ℕ) × (seat.new.me ≡ (word_view seat.old.me.0 n, seat.old.me.1)) × (observation seen ≡ seen_of act n))) }
+    ensures moved { MatchOption result ((is_on_word act ≡ false) × (seat.new.me ≡ seat.old.me)) (λ seen. (is_on_word act ≡ true) × Stand seat.new.me × ((n : ℕ) × (seat.new.me ≡ (word_view seat.old.me.0 n seat.new.me.0.history, seat.old.me.1)) × (observation seen ≡ seen_of act n) × IsShown seat.old.me.0 seat.new.me.0 (seen_of (plan_in seat.old.me.0.key.script.value (first_part seat.old.me.0.parts)) n))) }
 {
     match act {
         Act::Load { target, word } => {
@@ -58,7 +58,8 @@ pub(crate) fn perform(words: &Words, seat: &mut Seat<Slot, View>, act: Act) -> O
 pub(crate) fn look(words: &Words, seat: &mut Seat<Slot, View>) -> Option<Stop>
     requires own { (seat.old.table_id ≡ words.now.table_id) × (words.now.table_id.words ≡ word_count) }
     ensures own { (seat.new.table_id ≡ seat.old.table_id) × (seat.new.id ≡ seat.old.id) }
-    ensures looked { seat.new.me ≡ (looked_view seat.old.me.0 (stop_number result), seat.old.me.1) }
+    ensures same { seat.new.me ≡ (told_view seat.old.me.0 seat.new.me.0.history, seat.old.me.1) }
+    ensures looked { IsLook seat.old.me.0.parts seat.old.me.0.history result seat.new.me.0.history }
 {
     match words.load::<Looks>(seat, STOP) {
         0 => None,
@@ -71,7 +72,8 @@ pub(crate) fn look(words: &Words, seat: &mut Seat<Slot, View>) -> Option<Stop>
 pub(crate) fn set_stop(words: &Words, seat: &mut Seat<Slot, View>, stop: Stop)
     requires own { (seat.old.table_id ≡ words.now.table_id) × (words.now.table_id.words ≡ word_count) }
     ensures own { (seat.new.table_id ≡ seat.old.table_id) × (seat.new.id ≡ seat.old.id) }
-    ensures stopped { seat.new.me ≡ (stopped_view seat.old.me.0 (stop_number (Some stop)), seat.old.me.1) }
+    ensures same { seat.new.me ≡ (told_view seat.old.me.0 seat.new.me.0.history, seat.old.me.1) }
+    ensures stopped { IsStop seat.old.me.0.parts seat.old.me.0.history stop seat.new.me.0.history }
 {
     match stop {
         Stop::Finished => {

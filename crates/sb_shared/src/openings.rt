@@ -1,5 +1,5 @@
 // A shared world is opened.
-ghost use Rattle.std.specs.Prelude.{◌≡◌, ◌<◌, ◌∷◌, List, length, map, slice_get, true, IfOk, OnOk};
+ghost use Rattle.std.specs.Prelude.{◌≡◌, ◌<◌, ◌∷◌, [], List, length, map, slice_get, true, IfOk, OnOk};
 ghost use Rattle.sb_actor.specs.Places.{statements_of};
 ghost use Rattle.sb_book.specs.Readiness.{IsReady};
 ghost use Rattle.sb_statements.specs.Actors.{thread_count};
@@ -23,6 +23,7 @@ use crate::views::Origin;
 use crate::workers::{WorkerBody, WorkerSeat};
 use crate::worlds::SharedWorld;
 use atomic_table::{Refused, Table};
+use crossbeam_utils::CachePadded;
 use sb_actor::{ThreadState, WorkerState};
 use sb_base::NoMemory;
 use sb_book::{Book, RunStart};
@@ -71,8 +72,8 @@ pub fn script_of<'a>(start: &RunStart<'a>) -> &'a SoundScript
 }
 
 // The count of threads that sleep, before the first step.
-fn nobody_idle() -> AtomicU64 {
-    AtomicU64::new(0)
+fn nobody_idle() -> CachePadded<AtomicU64> {
+    CachePadded::new(AtomicU64::new(0))
 }
 
 // A table, and the seat from which all others are made.
@@ -118,7 +119,7 @@ fn worker_seat(
     requires opened { IsOpenedWith words.now.key script.now }
     requires there { target < length script.now.targets }
     requires first { (more : List Actor) × (keeper.old ≡ keeper_of words.now.table_id words.now.key (Worker target ∷ more)) }
-    ensures keeper { keeper.new ≡ record keeper.old { parts = later_parts keeper.old.parts } }
+    ensures keeper { keeper.new ≡ record keeper.old { parts = later_parts keeper.old.parts; taken = [] } }
     ensures seat { IfOk result (λ s. s ≡ fresh_worker words.now.table_id words.now.key target) }
 {
     let seat = keeper.split(words);
@@ -193,7 +194,7 @@ fn thread_seat(
     requires table { IsCleanTable script.now table.now }
     requires there { thread < thread_count (slice_get script.now.targets target) }
     requires first { (more : List Actor) × (keeper.old ≡ keeper_of words.now.table_id words.now.key (Thread target thread ∷ more)) }
-    ensures keeper { OnOk result (keeper.new ≡ record keeper.old { parts = later_parts keeper.old.parts }) }
+    ensures keeper { OnOk result (keeper.new ≡ record keeper.old { parts = later_parts keeper.old.parts; taken = [] }) }
     ensures seat { IfOk result (λ s. s ≡ fresh_thread words.now.table_id words.now.key (target, thread)) }
 {
     let results = Vec::with_capacity(alloc, statement_count(script, target, thread))?;

@@ -2,7 +2,7 @@
 ghost use Rattle.std.specs.Prelude.{◌≡◌, ◌∷◌, [], true, false};
 ghost use Rattle.sb_actor.specs.Places.{is_finished};
 ghost use Rattle.sb_actor.specs.ThreadTable.{thread_plan};
-ghost use Rattle.sb_shared.specs.Seats.{thread_looked, thread_stepped};
+ghost use Rattle.sb_shared.specs.Seats.{IsLook, IsThreadStep, thread_place, thread_stepped, thread_told};
 ghost use Rattle.sb_shared.specs.Waiting.{is_again, repeats};
 ghost use Rattle.sb_shared.specs.declared.views.Part.TheVariants as part;
 
@@ -83,7 +83,8 @@ impl ThreadSeat {
     pub fn step(&mut self, world: &SharedWorld, script: &SoundScript)
         requires own { self.old.table ≡ world.now.table }
         requires script { self.old.key.script.value ≡ script.now }
-        ensures step { is_finished script.now self.old.run.thread ≡ false → self.new ≡ thread_stepped self.old self.new.found }
+        ensures step { is_finished script.now self.old.run.thread ≡ false → IsThreadStep self.old self.new }
+        ensures word { is_finished script.now self.old.run.thread ≡ false → self.new ≡ thread_stepped self.old self.new.found self.new.history }
         ensures finished { is_finished script.now self.old.run.thread ≡ true → self.new ≡ self.old }
     {
         core_laws();
@@ -140,7 +141,8 @@ impl ThreadSeat {
     /// Looks at the stop word: the stop that was set, if one was.
     pub fn stopped(&mut self, world: &SharedWorld) -> Option<Stop>
         requires own { self.old.table ≡ world.now.table }
-        ensures looked { self.new ≡ thread_looked self.old result }
+        ensures same { self.new ≡ thread_told self.old self.new.history }
+        ensures looked { IsLook (thread_place self.old ∷ []) self.old.history result self.new.history }
     {
         look(&world.table.shared, &mut self.seat)
     }
@@ -164,6 +166,7 @@ impl ThreadSeat {
         ensures table { result.0.table_id ≡ self.table }
         ensures key { result.0.me.0.key ≡ self.key }
         ensures parts { result.0.me.0.parts ≡ part.Thread self.target self.thread self.run.thread self.run.results ∷ [] }
+        ensures history { result.0.me.0.history ≡ self.history }
         ensures out { result.0.me.1 ≡ [] }
         ensures results { result.1.items ≡ self.run.results }
     {

@@ -1,9 +1,10 @@
 // What a seat knows. Proofs speak of it, and no value of these types but `Origin` is made.
 
+use crate::stops::Stop;
 use sb_actor::{ThreadState, WorkerState};
 use sb_book::Book;
 use sb_rule::Policies;
-use sb_statements::{Script, StmtResult};
+use sb_statements::{Actor, Script, StmtResult};
 use std::collections::LinkedList;
 use std::snapshot::Snapshot;
 
@@ -33,20 +34,34 @@ pub struct Origin {
     pub script: Snapshot<Script>,
 }
 
+/// What happened in a run: each atomic step is one event.
+pub enum Event {
+    /// An actor made its step.
+    Step { actor: Actor },
+    /// A seat set a stop.
+    Stop { stop: Stop },
+    /// A seat looked at the stop word.
+    Look,
+}
+
+/// What a seat knew that was taken in.
+pub struct TakenSeat {
+    /// Where its actors were.
+    pub parts: LinkedList<Part>,
+    /// All that had happened when it made its last step.
+    pub history: LinkedList<Event>,
+}
+
 /// What a seat knows.
 pub struct View {
     /// The policies and the script of the run.
     pub key: Origin,
     /// Where the seat's actors are.
     pub parts: LinkedList<Part>,
-    /// The number of steps that the seat has made.
-    pub steps: u64,
-    /// What the last step found in its word, or stored there.
+    /// What the last step of its actor found in its word, or stored there.
     pub found: u64,
-    /// The greatest stop that the seat has set, 0 if none.
-    pub stop: u64,
-    /// The greatest stop that the seat has seen, 0 if none.
-    pub seen: u64,
-    /// The number of times that the seat has looked at the stop word.
-    pub looks: u64,
+    /// All that had happened when the seat made its last step, with that step.
+    pub history: LinkedList<Event>,
+    /// The seats that it took in, unless its actor made a step since.
+    pub taken: LinkedList<TakenSeat>,
 }

@@ -1,5 +1,5 @@
 // The seat of a worker.
-ghost use Rattle.std.specs.Prelude.{◌≡◌, ◌≢◌, ◌<◌, ◌∷◌, [], true, false, length, slice_index, is_some, IfOk, IfSome, OnOk, OnErr, Some, None};
+ghost use Rattle.std.specs.Prelude.{◌≡◌, ◌<◌, ◌∷◌, [], true, false, length, slice_index, is_some, IfOk, IfSome, OnOk, OnErr, Some, None};
 ghost use Rattle.sb_actor.specs.WorkerTable.{is_looking, taken_in, worker_plan};
 ghost use Rattle.sb_actor.specs.declared.acts.Act.TheVariants.{Take, Answer, Give};
 ghost use Rattle.sb_actor.specs.Observations.{Answered, Turn, Done};
@@ -9,7 +9,7 @@ ghost use Rattle.sb_core.specs.Kept.{has_turn};
 ghost use Rattle.sb_shared.specs.Keeping.{IsDecided, decision_on};
 ghost use Rattle.sb_shared.specs.Origins.{setting_in};
 ghost use Rattle.sb_shared.specs.Parts.{answer_to, is_on_word};
-ghost use Rattle.sb_shared.specs.Seats.{mark_held, worker_decided, worker_undecided, worker_stepped, worker_shown, worker_marked, worker_looked, worker_stopped};
+ghost use Rattle.sb_shared.specs.Seats.{IsLook, IsStop, IsTry, IsWordStep, IsWorkerStep, mark_held, worker_decided, worker_place, worker_undecided, worker_stepped, worker_shown, worker_marked, worker_told};
 ghost use Rattle.sb_shared.specs.declared.stops.Stop.TheVariants.{OutOfMemory};
 ghost use Rattle.sb_shared.specs.declared.views.Part.TheVariants as part;
 
@@ -189,15 +189,17 @@ impl WorkerSeat {
     /// it. A worker whose next step is on the turn stays as it is. It waits for nobody and allocates nothing.
     pub fn step(&mut self, world: &SharedWorld)
         requires own { self.old.table ≡ world.now.table }
-        ensures step { is_on_word (worker_plan self.old.state) ≡ true → self.new ≡ worker_stepped self.old self.new.found }
+        ensures step { is_on_word (worker_plan self.old.state) ≡ true → IsWordStep self.old self.new }
+        ensures word { is_on_word (worker_plan self.old.state) ≡ true → self.new ≡ worker_stepped self.old self.new.found self.new.history }
         ensures turn { is_on_word (worker_plan self.old.state) ≡ false → self.new ≡ self.old }
     {
         core_laws();
         let body = &mut *self.body;
         let act = body.state.plan();
-        if let Some(observed) = perform(&world.table.shared, &mut body.seat, act) {
-            body.state.after(observed);
-        }
+        let Some(observed) = perform(&world.table.shared, &mut body.seat, act) else {
+            return;
+        };
+        body.state.after(observed);
     }
 
     /// Decides on the worker's copy by the policy of its target, unless that was done. Without a copy there is nothing to decide.
@@ -225,8 +227,9 @@ impl WorkerSeat {
     pub fn try_take(&mut self, world: &SharedWorld) -> bool
         requires own { self.old.table ≡ world.now.table }
         requires plan { worker_plan self.old.state ≡ Take }
-        ensures taken { result ≡ true → (book : History) × (self.new ≡ worker_shown self.old (Turn true) (Some book) 0) }
-        ensures missed { result ≡ false → (self.new ≡ worker_shown self.old (Turn false) None self.new.found) × (self.new.found ≢ 0) }
+        ensures step { IsTry self.old self.new result }
+        ensures taken { result ≡ true → (book : History) × (self.new ≡ worker_shown self.old (Turn true) (Some book) 0 self.new.history) }
+        ensures missed { result ≡ false → self.new ≡ worker_shown self.old (Turn false) None self.new.found self.new.history }
     {
         core_laws();
         let words = &world.table.shared;
@@ -255,7 +258,8 @@ impl WorkerSeat {
         requires own { self.old.table ≡ world.now.table }
         requires plan { worker_plan self.old.state ≡ Answer }
         requires judge { J.policies judge.now ≡ (setting_in self.old.key).policies }
-        ensures marked { OnOk result ((book : History) × (self.old.book ≡ Some book) × (self.new ≡ worker_undecided (worker_marked self.old book self.new.found))) }
+        ensures step { OnOk result (IsWorkerStep self.old self.new) }
+        ensures marked { OnOk result ((book : History) × (self.old.book ≡ Some book) × (self.new ≡ worker_undecided (worker_marked self.old book self.new.found self.new.history))) }
         ensures err { OnErr result (self.new ≡ worker_undecided self.old) }
     {
         core_laws();
@@ -274,7 +278,8 @@ impl WorkerSeat {
     pub fn give_back(&mut self, world: &SharedWorld)
         requires own { self.old.table ≡ world.now.table }
         requires plan { worker_plan self.old.state ≡ Give }
-        ensures given { self.new ≡ worker_undecided (worker_shown self.old Done None 0) }
+        ensures step { IsWorkerStep self.old self.new }
+        ensures given { self.new ≡ worker_undecided (worker_shown self.old Done None 0 self.new.history) }
     {
         core_laws();
         let words = &world.table.shared;
@@ -288,7 +293,8 @@ impl WorkerSeat {
     /// Looks at the stop word: the stop that was set, if one was.
     pub fn stopped(&mut self, world: &SharedWorld) -> Option<Stop>
         requires own { self.old.table ≡ world.now.table }
-        ensures looked { self.new ≡ worker_looked self.old result }
+        ensures same { self.new ≡ worker_told self.old self.new.history }
+        ensures looked { IsLook (worker_place self.old ∷ []) self.old.history result self.new.history }
     {
         look(&world.table.shared, &mut self.body.seat)
     }
@@ -296,7 +302,8 @@ impl WorkerSeat {
     /// Stops the run, out of memory: every actor that looks at the stop word ends.
     pub fn fail(&mut self, world: &SharedWorld)
         requires own { self.old.table ≡ world.now.table }
-        ensures stopped { self.new ≡ worker_stopped self.old OutOfMemory }
+        ensures same { self.new ≡ worker_told self.old self.new.history }
+        ensures stopped { IsStop (worker_place self.old ∷ []) self.old.history OutOfMemory self.new.history }
     {
         set_stop(&world.table.shared, &mut self.body.seat, Stop::OutOfMemory);
     }
@@ -307,6 +314,7 @@ impl WorkerSeat {
         ensures table { result.0.table_id ≡ self.table }
         ensures key { result.0.me.0.key ≡ self.key }
         ensures parts { result.0.me.0.parts ≡ part.Worker self.target self.state None ∷ [] }
+        ensures history { result.0.me.0.history ≡ self.history }
         ensures out { result.0.me.1 ≡ [] }
         ensures state { result.1 ≡ self.state }
     {

@@ -9,6 +9,7 @@ use crate::protocol::{Slot, World};
 use crate::rooms::Rooms;
 use crate::views::{Origin, View};
 use atomic_table::Table;
+use crossbeam_utils::CachePadded;
 use std::alloc::Global;
 use std::marker::Model;
 use std::sync::Wait;
@@ -21,8 +22,8 @@ pub struct SharedWorld {
     pub(crate) table: Table<Slot, View, Origin, World, Global>,
     // What `close` fills.
     pub(crate) rooms: Rooms,
-    // How many threads sleep in `doze_idle`.
-    pub(crate) idle: AtomicU64,
+    // How many threads sleep in `doze_idle`. Each thread that serves writes it, so no other value is on its cache lines.
+    pub(crate) idle: CachePadded<AtomicU64>,
 }
 
 impl Drop for SharedWorld {

@@ -1,11 +1,12 @@
-use Rattle.std.proofs.Common.{◌++◌, ◌∷◌, [], List, subst, sym}
-use Rattle.std.specs.List.{AllZip}
-use Rattle.sb_shared.specs.Seats.{ThreadSeatValue}
+use Rattle.std.proofs.lemmas.List.Elements.{All-rest}
+use Rattle.std.specs.Vec.Iter.{into_iter_items}
+use Rattle.sb_run.specs.Started.{IsDone, StartedAt}
 use Rattle.sb_run.specs.Threads.{HasEnded}
-use Rattle.sb_run.proofs.Crewed.{zip_more}
+use Rattle.sb_run.proofs.Firsts.{joined_more}
 use Rattle.sb_run.proofs.groups.join_threads.Goals as goal
 
 pub loop-thread-preserved : goal.loop-thread-preserved
-loop-thread-preserved g c =
-    subst (λ (l : List ThreadSeatValue). AllZip HasEnded (c.loop-thread.yielded ++ c.in-Some.thread ∷ []) l) (sym c.in_ok-push.ensures.items)
-    (zip_more HasEnded c.loop-thread.yielded c.loop-thread.seats.items c.in-Some.thread c.in_ok-seat.seat c.loop-thread.invariant c.in_ok-seat.ensures)
+loop-thread-preserved g c = (
+  joined_more (λ (s : StartedAt). s.first) HasEnded c.loop-thread.yielded c.loop-thread.seats.items _ c.in-Some.thread c.in_ok-seat.seat c.in_ok-push.ensures.items c.loop-thread.invariant.0 c.in_ok-seat.ensures,
+  All-rest IsDone c.in-Some.thread (into_iter_items c.next.new.self) (into_iter_items c.loop-thread.thread-iterator) c.in-Some.ensures.steps.0 c.loop-thread.invariant.1,
+)

@@ -1,6 +1,8 @@
-use Rattle.std.proofs.Common.{subst}
+use Rattle.std.proofs.Common.{subst, List}
 use Rattle.core.specs.Mem.Slots.{slots_items}
 use Rattle.sb_shared.specs.Closing.{Ends}
+use Rattle.sb_shared.specs.declared.views.Part.{Part}
+use Rattle.sb_shared.specs.declared.views.TakenSeat.{TakenSeat}
 use Rattle.sb_shared.proofs.Dividing.{closes}
 use Rattle.sb_shared.proofs.closings.end_table.Goals as goal
 
@@ -12,6 +14,6 @@ returns c =
     let it = c.into_seat.result in (
       rows,
       c.take_words-words.ensures,
-      subst (λ ps. Ends key ps rows c.take-book.result) c.into_seat.ensures.parts
+      subst (λ (z : List Part × List TakenSeat). Ends key z.0 z.1 rows c.take-book.result) (λ i. (c.into_seat.ensures.parts i, c.into_seat.ensures.taken i))
           (closes key it.id it.me.0 rows (slots_items closed.slots) c.take-book.result c.take-book.ensures.value c.close_with-closed.ensures.values.2),
     )

@@ -40,7 +40,7 @@ loop-place-preserved c =
     let i = c.loop-place.place-index in
     let here : i < length places = search rules in
     let first = c.loop-place.invariant.0 ∙ ap (λ l. keeper_of words.table_id words.key (map thread_of l)) (here_at places i (0, 0) here).0 in (
-      c.in_ok-thread_seat.ensures.keeper ∙ ap (λ (k : KeeperValue). record k { parts = later_parts k.parts }) first,
+      c.in_ok-thread_seat.ensures.keeper ∙ ap (λ (k : KeeperValue). record k { parts = later_parts k.parts; taken = [] }) first,
       made_more (fresh_thread words.table_id words.key) places i (0, 0) c.loop-place.seats.items c.push.new.self.items c.in_ok-thread_seat.field-0 here c.loop-place.invariant.1 c.in_ok-thread_seat.ensures.seat
           c.in_ok-push.ensures.items,
     )

@@ -1,4 +1,4 @@
-use Rattle.std.proofs.Common.{◌≡◌, ◌∙◌, ◌<◌, ◌+◌, ◌-◌, ◌++◌, suc, ap, length, map, rules, arith}
+use Rattle.std.proofs.Common.{◌≡◌, ◌∙◌, ◌<◌, ◌+◌, ◌-◌, ◌++◌, [], suc, ap, length, map, rules, arith}
 use Rattle.std.specs.List.{range_with_len}
 use Rattle.sb_statements.specs.declared.schedules.Actor.TheVariants.{Worker}
 use Rattle.sb_shared.specs.Closing.{later_parts}
@@ -28,6 +28,6 @@ loop-target-preserved c =
     let here : t < n = search rules in
     let next : n - t ≡ suc (n - (t + 1)) = omega (arith, here) in
     let first = c.loop-target.invariant.0 ∙ ap (λ m. keeper_of words.table_id words.key (map Worker (range_with_len t m) ++ map thread_of (thread_places targets))) next in (
-      c.worker_seat.ensures.keeper ∙ ap (λ (k : KeeperValue). record k { parts = later_parts k.parts }) first,
+      c.worker_seat.ensures.keeper ∙ ap (λ (k : KeeperValue). record k { parts = later_parts k.parts; taken = [] }) first,
       range_more (fresh_worker words.table_id words.key) t c.loop-target.seats.items c.push.new.self.items c.in_ok-worker_seat.field-0 c.loop-target.invariant.1 c.in_ok-worker_seat.ensures.seat c.in_ok-push.ensures.items,
     )

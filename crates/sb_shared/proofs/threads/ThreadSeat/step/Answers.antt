@@ -1,4 +1,4 @@
-use Rattle.std.proofs.Common.{◌≡◌, true, false, not, sym, ap, ◌∙◌}
+use Rattle.std.proofs.Common.{◌≡◌, true, false, sym, ap, ◌∙◌}
 use Rattle.sb_actor.specs.Places.{is_finished}
 use Rattle.sb_actor.specs.ThreadTable.{thread_plan}
 use Rattle.sb_shared.specs.Parts.{is_on_word}

@@ -1,0 +1,8 @@
+use Rattle.sb_shared.specs.declared.stops.Stop.TheVariants.{Finished}
+use Rattle.sb_run.proofs.Looking.{set_stop}
+use Rattle.sb_run.proofs.crews.work.Goals as goal
+
+pub returns-clause-stopped : goal.returns-clause-stopped
+returns-clause-stopped g c =
+    let keeper = c.look_after.new.keeper in
+    set_stop keeper.parts keeper.history Finished c.stop_at_end.new.keeper.history c.in_ok-ended.ensures.stopped
