@@ -5,7 +5,7 @@ use Rattle.std.proofs.lemmas.Option.{none-some}
 use Rattle.std.specs.List.{list_all}
 use Rattle.sb_base.specs.Numbers.{is_word64}
 use Rattle.sb_base.specs.Wide.{is_unit}
-use Rattle.sb_audit.specs.Converse.{Each}
+use Rattle.sb_transcript.specs.Printable.{Each}
 use Rattle.sb_audit.proofs.Converse.Lists.{some_same}
 
 pub all_units : (us : List ℕ) → ((i : ℕ) → get_or us i 0 < 65536) → list_all is_unit us ≡ true

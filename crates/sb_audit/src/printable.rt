@@ -10,12 +10,11 @@ ghost use Rattle.sb_transcript.specs.Printed.{shown_call, shown_decision, shown_
 ghost use Rattle.sb_transcript.specs.Ranges.{DecisionInRange, FaultInRange, ReplyInRange, ResultInRange, is_argument};
 ghost use Rattle.sb_base.specs.Numbers.{is_word64};
 ghost use Rattle.sb_statements.specs.declared.results.StmtResult.{StmtResult};
-ghost use Rattle.sb_audit.specs.Converse.{ArePrintableResults, Each, IsPrintable, IsPrintableEntry, IsPrintableResult};
+ghost use Rattle.sb_transcript.specs.Printable.{ArePrintableResults, Each, IsPrintable, IsPrintableEntry, IsPrintableResult};
 
 use sb_block::BlockFault;
 use sb_book::{
-    EntryParts, EntrySlice, EntryView, Report, Ruling, StoredArg, StoredArgs, TargetResults,
-    ThreadResults,
+    EntrySlice, EntryView, Report, Ruling, StoredArg, StoredArgs, TargetResults, ThreadResults,
 };
 use sb_call::{CallTag, Reply};
 use sb_rule::{Action, Verdict};
@@ -175,10 +174,9 @@ fn establish_result(of_statement: &StmtResult)
 fn establish_entry(entry: &EntryView<'_>)
     ensures { IsPrintableEntry entry.now }
 {
-    let EntryParts { mark, reply, args } = entry.parts();
-    let _mark = mark;
-    establish_decision(entry.ruling(), args);
-    establish_reply(&reply);
+    let _mark = entry.mark();
+    establish_decision(entry.ruling(), entry.args());
+    establish_reply(entry.reply());
 }
 
 fn establish_entries(entries: EntrySlice<'_>)

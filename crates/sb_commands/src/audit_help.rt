@@ -3,7 +3,7 @@ use crate::forms::CommandHelp;
 
 const ABOUT: &str = "Anybody may have made TRANSCRIPT. It passes if no clause below fails at any of
 its lines. It does not follow that some run prints it: entries on channels that
-SCRIPT writes directly may be invented. It may have up to 268435456 bytes.
+SCRIPT writes directly may be invented. It may have up to 536870912 bytes.
 
 example:
   sandbox replay examples/first.policy examples/first.script > my.transcript

@@ -28,7 +28,7 @@ exit status:
    4  script refused
    5  schedule refused
    6  missing file
-   7  file too long (more than 4194304 bytes; a TRANSCRIPT more than 268435456)
+   7  file too long (more than 4194304 bytes; a TRANSCRIPT more than 536870912)
    8  read fault
    9  write fault
   10  unfinished

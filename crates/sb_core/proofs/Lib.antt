@@ -8,6 +8,7 @@ pub mod Counting
 pub mod DirectStores
 pub mod Draining
 pub mod Ending
+pub mod EntryCounts
 pub mod Finished
 pub mod Finishing
 pub mod Fitting

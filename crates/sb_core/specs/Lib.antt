@@ -18,3 +18,4 @@ pub mod Fits
 pub mod Origins
 pub mod Tallies
 pub mod OfScripts
+pub mod EntryCounts

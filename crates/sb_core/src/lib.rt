@@ -6,7 +6,7 @@
 // at once, and `specs/Laws.antt` says what holds of every run. `specs/Views.antt` says what is known of a target's actors in a world,
 // `specs/Rules.antt` that rule S holds of it, and `specs/OfScripts.antt` that each world of a script keeps it, whatever steps led there.
 // `specs/Fits.antt` says when a report fits its script, `specs/Origins.antt` where its words come from, `specs/Tallies.antt` how many
-// entries a channel has at most, and `specs/Findings.antt` why each statement ended with its result. What real threads did ends in
+// entries a channel has at most, `specs/EntryCounts.antt` how many a run has, and `specs/Findings.antt` why each statement ended with its result. What real threads did ends in
 // `finish`: if their steps lead to a world of the script in which every thread is finished, its report is that of a run by a schedule
 // (`ends_are_runs`), so that all of this holds of it.
 #![tactic(auto)]
@@ -34,8 +34,8 @@ pub use laws::{
     worlds_keep,
 };
 pub use rules::{
-    no_block_is_invented, replies_are_own, rule_holds, runs_fit, worlds_of_scripts_invent_nothing,
-    worlds_of_scripts_keep_rule,
+    entries_are_at_most_statements, no_block_is_invented, replies_are_own, rule_holds, runs_fit,
+    worlds_of_scripts_invent_nothing, worlds_of_scripts_keep_rule,
 };
 pub use runs::{Ran, run};
 pub use worlds::World;

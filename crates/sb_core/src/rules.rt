@@ -1,4 +1,5 @@
 // Rule S over worlds, and what follows for reports. None of these functions does anything: each contract is a law.
+ghost use Rattle.sb_core.specs.EntryCounts.{RunsHaveFewEntries, StatementsAreFew, WorldsHaveFewEntries};
 ghost use Rattle.sb_core.specs.Fits.{RepliesAreOwn, RunsFit, RunsReplyOwn, WorldsOfScriptsReplyOwn};
 ghost use Rattle.sb_core.specs.Origins.{NoBlockIsInvented, WorldsAreSourced};
 ghost use Rattle.sb_core.specs.Rules.{RuleHolds, RunsKeepRule, WorldsOfScriptsKeepRule};
@@ -104,4 +105,16 @@ pub fn worlds_of_scripts_invent_nothing()
     ensures few { WorldsAreFew }
 {
     sound_parts();
+}
+
+/// A run has at most as many entries as its script has statements, and a sound script has at most 131,072: each entry is of a call that was
+/// handed over, or of a statement that made its channel ready. So it is in each world of a script, whichever steps led there, and in the
+/// report of every run, also if it leaves a thread unfinished.
+pub fn entries_are_at_most_statements()
+    ensures worlds { WorldsHaveFewEntries }
+    ensures runs { RunsHaveFewEntries }
+    ensures most { StatementsAreFew }
+{
+    sound_parts();
+    answers_keep_histories();
 }

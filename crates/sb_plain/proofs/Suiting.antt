@@ -148,7 +148,7 @@ plain_suits : (files : ℕ) (s : Status) → IsPlainStatus s → Suits files s
 plain_suits files s h = (h.0, let P : Option ℕ → Type 0 = λ x. IfSome x (λ n. (1 ≤ n) × (n ≤ files)) in subst P (sym h.1) tt)
 
 -- the number of contents
-counted : (held : Option Held) (names : List (List ℕ)) (contents : Contents) → AreContents held names contents → length contents ≡ length names
+pub counted : (held : Option Held) (names : List (List ℕ)) (contents : Contents) → AreContents held names contents → length contents ≡ length names
 counted held [] [] h = refl
 counted held [] (c ∷ contents) h = absurd h
 counted held (name ∷ names) [] h = absurd h

@@ -8,15 +8,12 @@ use Rattle.sb_audit.specs.declared.answers.Refuted.{Refuted}
 use Rattle.sb_rule.specs.declared.policies.Policy.{Policy}
 use Rattle.sb_statements.specs.declared.scripts.Script.{Script}
 use Rattle.sb_text.specs.Lines.{numbered_raw_lines}
+pub use Rattle.sb_transcript.specs.Lengths.{most_transcript_bytes}
 use Rattle.sb_text.specs.Steps.{◌>>=◌}
 use Rattle.sb_plain.specs.Contents.{Content, Refusal, text_within}
 use Rattle.sb_plain.specs.Ends.{Contents, End}
 use Rattle.sb_plain.specs.ScriptEnds.{script_end, third_by}
 use Rattle.sb_plain.specs.declared.outcomes.Status.TheVariants.{AuditNo}
-
--- the most bytes that a transcript may have
-abbrev pub most_transcript_bytes : ℕ
-most_transcript_bytes = 268435456
 
 -- the line of this number, from 1, as it is between LFs, if there is one
 abbrev pub raw_line : ℕ → List ℕ → Option (List ℕ)

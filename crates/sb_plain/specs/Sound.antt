@@ -1,7 +1,11 @@
 -- What the report of a run says of its script, whatever the order of the steps was.
-use Rattle.std.specs.Prelude.{◌≡◌, ◌*◌, length, map, List, None, IfSome, Ok}
-use Rattle.sb_audit.specs.Converse.{IsAuditedYes, IsPrintable}
+use Rattle.std.specs.Prelude.{◌≡◌, ◌≤◌, ◌*◌, length, map, List, None, IfSome, Ok}
+use Rattle.sb_audit.specs.Converse.{IsAuditedYes}
+use Rattle.sb_transcript.specs.Lengths.{most_transcript_bytes}
+use Rattle.sb_transcript.specs.Printable.{IsPrintable}
+use Rattle.sb_transcript.specs.Transcripts.{transcript}
 use Rattle.sb_book.specs.Histories.{setting_of, IsHistory}
+use Rattle.sb_core.specs.EntryCounts.{statement_count}
 use Rattle.sb_core.specs.Fits.{Fits}
 use Rattle.sb_core.specs.Origins.{IsSourced}
 use Rattle.sb_core.specs.Results.{ResultsFit}
@@ -15,17 +19,19 @@ use Rattle.sb_plain.specs.Ends.{Contents, End, IsOrderOf, Meaning, OnThreads, Pl
 use Rattle.sb_plain.specs.Replay.{whole_run}
 
 -- What a run reports: its entries are a legal history, which led to its namespace; each result is that of the statement at its place; each
--- target has 65 words for each channel; and no word of it is invented. If no thread is unfinished the report fits the script: there is one
--- result for each statement, each thread has its own replies, each once, each result suits its statement, and so do the words; a channel has
--- no more entries than calls that were handed over there and statements that made it ready; and an audit of the report's transcript says yes, if
--- the report can be printed, as each that the program holds
+-- target has 65 words for each channel; no word of it is invented; and it has at most as many entries as the script has statements. If no thread is
+-- unfinished the report fits the script: there is one result for each statement, each thread has its own replies, each once, each result suits its
+-- statement, and so do the words; a channel has no more entries than calls that were handed over there and statements that made it ready; and if the
+-- report can be printed, as each that the program holds, its transcript is at most 536,870,912 bytes long, and an audit of it says yes
 pub record IsSoundRun (policies : List Policy) (script : Script) (r : Ran) : Type 0 where
   pub history : IsHistory (record { setting = setting_of policies script; space = r.report.kernel; entries = r.report.entries })
   pub results : ResultsFit script r.report.results
   pub words : map (λ words. length words) r.report.words ≡ map (λ target. target.channels * 65) script.targets
   pub sourced : IsSourced script r.report
+  pub entries : length r.report.entries ≤ statement_count script
   pub fits : r.unfinished ≡ None → Fits policies script r.report
   pub few : r.unfinished ≡ None → AreFew script r.report
+  pub short : r.unfinished ≡ None → IsPrintable r.report → length (transcript script r.report) ≤ most_transcript_bytes
   pub audited : r.unfinished ≡ None → IsPrintable r.report → IsAuditedYes policies script r.report
 
 -- so is each run

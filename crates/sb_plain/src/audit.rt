@@ -18,7 +18,7 @@ use sb_text::{RawLines, TextPart};
 use std::alloc::Global;
 
 /// The most bytes that a transcript may have.
-const MOST_TRANSCRIPT_BYTES: u64 = 268_435_456;
+const MOST_TRANSCRIPT_BYTES: u64 = 536_870_912;
 
 // The line of this number, from 1, as it is between LFs.
 fn raw_line(number: u32, text: &[u8]) -> Option<&[u8]>
@@ -102,7 +102,7 @@ fn answer_in<F: Files>(
     answer_to(alloc, ready, &text)
 }
 
-/// Reads policies, a script and a transcript of at most 268,435,456 bytes, in this order, and audits the transcript under them: a transcript at
+/// Reads policies, a script and a transcript of at most 536,870,912 bytes, in this order, and audits the transcript under them: a transcript at
 /// which no clause fails ends with a line that tells its numbers of entries and results, and another is refused at the line of the first that does.
 pub fn audit_transcript<F: Files>(
     alloc: Global,

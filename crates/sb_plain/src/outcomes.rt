@@ -32,7 +32,7 @@ pub enum Status {
     AuditNo(Refuted),
     /// There is no such file.
     Missing { which: u8 },
-    /// The file has more than 4,194,304 bytes.
+    /// The file has more than 4,194,304 bytes, or is a transcript of more than 536,870,912.
     TooLong { which: u8 },
     /// The file was not read.
     ReadFault { which: u8 },

@@ -6,6 +6,7 @@ pub mod CutLaws
 pub mod Cutting
 pub mod EndLaws
 pub mod EntriesBack
+pub mod Lengths
 pub mod LineLaws
 pub mod LinesBack
 pub mod NumbersBack

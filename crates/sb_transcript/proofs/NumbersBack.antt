@@ -95,6 +95,15 @@ pub decimal_some : (n : ℕ) → n < 2 ^ 64 → 1 ≤ length (decimal n)
 decimal_some n h =
     some_digits (decimal n) (picked (are_digits is_decimal_digit 20 (decimal n)) (below_2_64 (value_from 10 0 (decimal n))) n (decimal_back n h)).test
 
+few_digits : (is_digit : ℕ → Bool) (most : ℕ) (ds : List ℕ) → are_digits is_digit most ds ≡ true → length ds ≤ most
+few_digits is_digit most ds h =
+    let low = (and_parts (nat_le 1 (length ds)) (nat_le (length ds) most) (and_parts (nat_le 1 (length ds) && nat_le (length ds) most) (list_all is_digit ds) h).0).1 in
+    grind (arith, nat_tests, low)
+
+pub decimal_short : (n : ℕ) → n < 2 ^ 64 → length (decimal n) ≤ 20
+decimal_short n h =
+    few_digits is_decimal_digit 20 (decimal n) (picked (are_digits is_decimal_digit 20 (decimal n)) (below_2_64 (value_from 10 0 (decimal n))) n (decimal_back n h)).test
+
 pub decimal_plain : (n : ℕ) → n < 2 ^ 64 → list_all (is_plain 32) (decimal n) ≡ true
 decimal_plain n h = all_more is_decimal_digit (is_plain 32) decimal_plain_byte (decimal n) (decimal_digits n h)
 
@@ -131,6 +140,9 @@ number_back n h = hexadecimals n h
 
 hexadecimal_picked : (n : ℕ) → n < 2 ^ 64 → Picked (are_digits is_hexadecimal_digit 16 (hexadecimal n)) (below_2_64 (value_from 16 0 (hexadecimal n))) n
 hexadecimal_picked n h = picked (are_digits is_hexadecimal_digit 16 (hexadecimal n)) (below_2_64 (value_from 16 0 (hexadecimal n))) n (hexadecimal_digits_back n h)
+
+pub hexadecimal_short : (n : ℕ) → n < 2 ^ 64 → length (hexadecimal n) ≤ 16
+hexadecimal_short n h = few_digits is_hexadecimal_digit 16 (hexadecimal n) (hexadecimal_picked n h).test
 
 pub hexadecimal_plain : (n : ℕ) → n < 2 ^ 64 → list_all (is_plain 32) (hexadecimal n) ≡ true
 hexadecimal_plain n h = all_more is_hexadecimal_digit (is_plain 32) hexadecimal_plain_byte (hexadecimal n) (all_digits is_hexadecimal_digit 16 (hexadecimal n) (hexadecimal_picked n h).test)

@@ -4,8 +4,10 @@ pub mod Cuts
 pub mod EntryLines
 pub mod Fields
 pub mod Laws
+pub mod Lengths
 pub mod LineBuffers
 pub mod Places
+pub mod Printable
 pub mod Printed
 pub mod Ranges
 pub mod Reading

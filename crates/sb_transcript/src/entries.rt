@@ -11,7 +11,7 @@ ghost use Rattle.sb_transcript.specs.EntryLines.{fault_text, argument_text, deni
 use crate::comma_words::put_comma_words;
 use sb_base::{NoMemory, put_decimal, put_eight_digits, put_hexadecimal, put_named, quote_into};
 use sb_block::BlockFault;
-use sb_book::{EntryParts, EntryView, Ruling, StoredArg, StoredArgs};
+use sb_book::{EntryView, Ruling, StoredArg, StoredArgs};
 use sb_call::{Arg, Reply, call_word};
 use sb_rule::{Action, Verdict};
 use sb_statements::Script;
@@ -189,31 +189,32 @@ pub fn put_reply(line: &mut Vec<u8>, reply: &Reply) -> Result<(), NoMemory>
     put_extended(line, reply.ext.as_slice())
 }
 
-// Appends the line of entry `n` of this target and channel, with its ruling and its other parts.
-fn put_parts(
+// Appends what the line of entry `n` of this target and channel begins with, up to the decision.
+fn put_start(
     line: &mut Vec<u8>,
     script: &Script,
     n: u64,
     place: (u32, u32),
-    ruling: Ruling,
-    parts: EntryParts<'_>,
+    mark: u64,
 ) -> Result<(), NoMemory>
     ensures { OnOk result (line.new.items ≡ line.old.items ++ (codes "entry " ++ decimal n ++ codes " " ++ target_name script.now place.0
-        ++ codes " " ++ decimal place.1 ++ codes " mark " ++ decimal parts.entry.mark ++ codes " " ++ decision_text (decision_with ruling parts.entry.args)
-        ++ codes " reply " ++ reply_text parts.entry.reply ++ codes "\n")) }
+        ++ codes " " ++ decimal place.1 ++ codes " mark " ++ decimal mark ++ codes " ")) }
 {
-    let EntryParts { mark, reply, args } = parts;
     put_named(line, b"entry ", n)?;
     line.push(b' ')?;
     line.extend_from_slice(script.target_name(place.0 as usize))?;
     put_named(line, b" ", u64::from(place.1))?;
     put_named(line, b" mark ", mark)?;
     line.push(b' ')?;
-    put_decision(line, ruling, args)?;
-    line.extend_from_slice(b" reply ")?;
-    put_reply(line, &reply)?;
-    line.push(b'\n')?;
     Ok(())
+}
+
+// Appends what was decided of an entry.
+fn put_decided(line: &mut Vec<u8>, entry: &EntryView<'_>) -> Result<(), NoMemory>
+    ensures { OnOk result (line.new.items ≡ line.old.items ++ decision_text entry.now.decision) }
+{
+    let (ruling, args) = (entry.ruling(), entry.args());
+    put_decision(line, ruling, args)
 }
 
 /// Appends the line of entry `n` of a history, counted from 0, with its LF.
@@ -229,7 +230,12 @@ pub fn put_entry_line(
     ensures { OnOk result (line.new.items ≡ line.old.items ++ entry_line script.now n entry.now) }
 {
     let place = (entry.target(), entry.channel());
-    put_parts(line, script, n, place, entry.ruling(), entry.parts())
+    put_start(line, script, n, place, entry.mark())?;
+    put_decided(line, entry)?;
+    line.extend_from_slice(b" reply ")?;
+    put_reply(line, entry.reply())?;
+    line.push(b'\n')?;
+    Ok(())
 }
 
 /// The line of entry `n` of a history, counted from 0, with its LF.

@@ -8,6 +8,7 @@ mod cuts;
 mod entries;
 mod hexadecimal;
 mod laws;
+mod length_laws;
 mod line_buffers;
 mod lines;
 mod numbers;
@@ -32,6 +33,7 @@ pub use laws::{
     entries_come_first, lines_are_counted, lines_end_once, numbers_are_results,
     results_are_in_order, results_follow, totals_end, transcripts_tell_their_lines,
 };
+pub use length_laws::{lines_are_short, transcripts_are_short};
 pub use line_buffers::LineBuffer;
 pub use lines::{line, line_count};
 pub use read_lines::{

@@ -32,7 +32,8 @@ use Rattle.sb_transcript.specs.Totals as totals
 use Rattle.sb_audit.specs.Audited.{audited_from, failing}
 use Rattle.sb_audit.specs.Before.{entries_of, entry_count, has_totals, result_count}
 use Rattle.sb_audit.specs.Clauses.{count_of, is_denied, is_faked, is_performed, is_refused, same_totals, totals_due}
-use Rattle.sb_audit.specs.Converse.{IsPrintable, IsPrintableEntry, IsPrintableResult, ReportsThatFitAreAudited}
+use Rattle.sb_audit.specs.Converse.{ReportsThatFitAreAudited}
+use Rattle.sb_transcript.specs.Printable.{IsPrintable, IsPrintableEntry, IsPrintableResult}
 use Rattle.sb_audit.specs.Spots.{due_spot, spots}
 use Rattle.sb_audit.specs.declared.answers.AuditAnswer.TheVariants.{Yes}
 use Rattle.sb_audit.specs.declared.dues.Due.TheVariants.{Totals}

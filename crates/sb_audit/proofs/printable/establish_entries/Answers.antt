@@ -1,6 +1,6 @@
 use Rattle.std.proofs.Common.{◌≡◌, List, [], ◌∷◌, sym, subst}
 use Rattle.sb_book.specs.declared.entries.Entry.{Entry}
-use Rattle.sb_audit.specs.Converse.{Each, IsPrintableEntry}
+use Rattle.sb_transcript.specs.Printable.{Each, IsPrintableEntry}
 use Rattle.sb_audit.proofs.Printing.{each_more, each_none}
 use Rattle.sb_audit.proofs.printable.establish_entries.Goals as goal
 

@@ -1,5 +1,5 @@
 use Rattle.std.proofs.Common.{length}
-use Rattle.sb_audit.specs.Converse.{Each, IsPrintableEntry}
+use Rattle.sb_transcript.specs.Printable.{Each, IsPrintableEntry}
 use Rattle.sb_audit.proofs.printable.establish_entries.Given as goal
 
 -- it holds of all if it does of those that are left

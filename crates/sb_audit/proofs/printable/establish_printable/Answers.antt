@@ -1,7 +1,7 @@
 use Rattle.std.proofs.Common.{List, arith, subst}
 use Rattle.sb_book.specs.declared.entries.Entry.{Entry}
 use Rattle.sb_statements.specs.declared.results.StmtResult.{StmtResult}
-use Rattle.sb_audit.specs.Converse.{ArePrintableResults, Each, IsPrintableEntry}
+use Rattle.sb_transcript.specs.Printable.{ArePrintableResults, Each, IsPrintableEntry}
 use Rattle.sb_audit.proofs.printable.establish_printable.Goals as goal
 
 pub returns : goal.returns

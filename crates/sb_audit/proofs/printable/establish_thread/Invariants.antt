@@ -1,5 +1,5 @@
 use Rattle.std.proofs.Common.{length}
-use Rattle.sb_audit.specs.Converse.{Each, IsPrintableResult}
+use Rattle.sb_transcript.specs.Printable.{Each, IsPrintableResult}
 use Rattle.sb_audit.proofs.printable.establish_thread.Given as goal
 
 -- it holds of all if it does of those that are left
