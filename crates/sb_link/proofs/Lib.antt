@@ -15,3 +15,5 @@ pub mod Linking
 pub mod Logs
 pub mod Performed
 pub mod Asking
+pub mod ResolvedUnits
+pub mod Answering

@@ -73,7 +73,7 @@ all_answers s done (a ∷ asked) h =
     subst (IsOf (all_answered (answered_linked s a.target a.channel a.taken) asked)) (append_assoc done (a ∷ []) asked)
     (all_answers (answered_linked s a.target a.channel a.taken) (done ++ a ∷ []) asked (one_answer s done a h))
 
-links_stay : (s : LinkedHistory) (asked : List Asked) → (all_answered s asked).links ≡ s.links
+pub links_stay : (s : LinkedHistory) (asked : List Asked) → (all_answered s asked).links ≡ s.links
 links_stay s [] = refl
 links_stay s (a ∷ asked) = links_stay (answered_linked s a.target a.channel a.taken) asked ∙ one (linked s.links a.taken)
   where

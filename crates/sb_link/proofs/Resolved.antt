@@ -73,14 +73,14 @@ arg_passes links Handle a b are h e = handle_passes links a b h e
 abbrev AllPass : List Link → List ParamKind → List Arg → Type 0
 AllPass links kinds args = (fit kinds args ≡ true) × AreResolved links kinds args
 
-of_ok : {A E : Type 0} (x y : A) → ◌≡◌ {A = Result A E} (Ok x) (Ok y) → x ≡ y
+pub of_ok : {A E : Type 0} (x y : A) → ◌≡◌ {A = Result A E} (Ok x) (Ok y) → x ≡ y
 of_ok x y e = cc
 
-err_is_err : {A E : Type 0} (x : A) (e : E) → ◌≡◌ {A = Result A E} (Err e) (Ok x) → ⊥
+pub err_is_err : {A E : Type 0} (x : A) (e : E) → ◌≡◌ {A = Result A E} (Err e) (Ok x) → ⊥
 err_is_err x e h = cc
 
 -- what follows an argument
-abbrev after_arg : List Link → ℕ → List ParamKind → List Arg → Option Arg → Result (List Arg) Stop
+abbrev pub after_arg : List Link → ℕ → List ParamKind → List Arg → Option Arg → Result (List Arg) Stop
 after_arg links i kinds args found = elim found [
   | None ↦ Err (Loop i)
   | Some other ↦ on_value (λ others. other ∷ others) (resolved_from links (i + 1) kinds args)

@@ -1,6 +1,6 @@
 -- What is true of a book that resolves names first.
-use Rattle.std.specs.Prelude.{◌≡◌, ℕ, ◌+◌, List, [], ◌∷◌, length, Some, slice_get, Ok, Err}
-use Rattle.std.specs.List.{count_by}
+use Rattle.std.specs.Prelude.{◌≡◌, ℕ, ◌+◌, true, List, [], ◌∷◌, length, Some, slice_get, Ok, Err}
+use Rattle.std.specs.List.{count_by, list_all}
 use Rattle.sb_call.specs.Tags.{shape_of}
 use Rattle.sb_call.specs.declared.arguments.Arg.{Arg}
 use Rattle.sb_call.specs.declared.tags.CallTag.{CallTag}
@@ -8,12 +8,18 @@ use Rattle.sb_block.specs.Calls.{call_of}
 use Rattle.sb_block.specs.Copies.{Copied, mark_of}
 use Rattle.sb_rule.specs.Verdicts.{policy_at}
 use Rattle.sb_rule.specs.declared.actions.Action.{Action}
-use Rattle.sb_book.specs.Histories.{IsHistory, Setting}
+use Rattle.sb_rule.specs.declared.policies.Policy.{Policy}
+use Rattle.sb_book.specs.Histories.{IsHistory, Setting, setting_of}
 use Rattle.sb_book.specs.Laws.{IsAllowed}
+use Rattle.sb_book.specs.Readiness.{IsReady}
 use Rattle.sb_book.specs.declared.decisions.Decision.TheVariants.{Performed}
 use Rattle.sb_book.specs.declared.entries.Entry.{Entry}
+use Rattle.sb_statements.specs.declared.scripts.Script.{Script}
 use Rattle.sb_link.specs.Answers.{AreResolved, linked, stopped_reply}
 use Rattle.sb_link.specs.LinkedHistories.{Asked, IsLinkedHistory, LinkedHistory, all_answered, answered_linked, is_stopped, new_linked}
+use Rattle.sb_link.specs.Links.{AreLinks}
+use Rattle.sb_link.specs.ScriptCalls.{script_answered}
+use Rattle.sb_link.specs.Writing.{is_writable}
 use Rattle.sb_link.specs.declared.links.Link.{Link}
 use Rattle.sb_link.specs.declared.stops.StoppedCall.{StoppedCall}
 use Rattle.sb_link.specs.declared.linked_books.Linked.{Linked}
@@ -54,3 +60,29 @@ abbrev pub PerformedCallsAreResolved : Type 0
 PerformedCallsAreResolved = (s : LinkedHistory) (n : ℕ) (e : Entry) (tag : CallTag) (line : ℕ) (action : Action) (args : List Arg)
     → IsHistory s.history → IsLinkedHistory s → slice_get s.history.entries n ≡ Some e → e.decision ≡ Performed tag line action args
     → IsAllowed (policy_at s.history.setting.policies e.target) (call_of e.taken) tag line action args × AreResolved s.links (shape_of tag) args
+
+-- ---- the answers to the calls of a script
+
+-- the links were read: they are links, and they can be written
+pub record WereRead (links : List Link) : Type 0 where
+  pub are : AreLinks links
+  pub writable : list_all is_writable links ≡ true
+
+-- after the answers to all calls of a script that is ready for its policies, by links that were read, the entries are a legal history of the script, the
+-- namespace is the one that they led to, and the log is of them
+pub record IsScriptHistory (policies : List Policy) (script : Script) (links : List Link) (s : LinkedHistory) : Type 0 where
+  pub links_stay : s.links ≡ links
+  pub setting_stays : s.history.setting ≡ setting_of policies script
+  pub history : IsHistory s.history
+  pub linked : IsLinkedHistory s
+
+abbrev pub ScriptAnswersAreHistories : Type 0
+ScriptAnswersAreHistories = (policies : List Policy) (script : Script) (links : List Link) → IsReady policies script → WereRead links
+    → IsScriptHistory policies script links (script_answered policies script links)
+
+-- so each call of a script that was performed is allowed by the policy of its target on its resolved names, and each of these is its own resolution
+abbrev pub ScriptCallsAreResolved : Type 0
+ScriptCallsAreResolved = (policies : List Policy) (script : Script) (links : List Link) → IsReady policies script → WereRead links
+    → (n : ℕ) (e : Entry) (tag : CallTag) (line : ℕ) (action : Action) (args : List Arg)
+    → slice_get (script_answered policies script links).history.entries n ≡ Some e → e.decision ≡ Performed tag line action args
+    → IsAllowed (policy_at (setting_of policies script).policies e.target) (call_of e.taken) tag line action args × AreResolved links (shape_of tag) args

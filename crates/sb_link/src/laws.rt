@@ -1,6 +1,6 @@
 // Laws of resolving names, and of books that do it. None of these functions does anything: each contract is a law.
 ghost use Rattle.sb_link.specs.Cases.{ChainsResolve, LongestResolves, LoopsDoNotResolve, RingsDoNotResolve};
-ghost use Rattle.sb_link.specs.LinkedLaws.{LogsAreCounted, LogsAreOfAnswers, PerformedCallsAreResolved, StoppedCallsChangeNothing};
+ghost use Rattle.sb_link.specs.LinkedLaws.{LogsAreCounted, LogsAreOfAnswers, PerformedCallsAreResolved, ScriptAnswersAreHistories, ScriptCallsAreResolved, StoppedCallsChangeNothing};
 ghost use Rattle.sb_link.specs.ResolutionLaws.{LongestLinksApply, NamesResolveToNames, OrderDoesNotMatter, OtherNamesStay, ResolvedNamesStay, SameNamesResolveAlike};
 ghost use Rattle.sb_link.specs.Writing.{ReadLinksAreLinks, WrittenLinksAreRead};
 
@@ -69,6 +69,18 @@ pub fn stopped_calls_change_nothing()
 pub fn performed_calls_are_resolved()
     ensures { PerformedCallsAreResolved }
 {
+    sb_book::entries_say_what_was_done();
+}
+
+/// The answers to all calls of a script that is ready for its policies, by links that were read: the entries are a legal history of the script,
+/// and the log is of them. So each call that was performed is allowed by the first rule of its target's policy that holds, on its resolved
+/// names and with exactly the arguments that this rule grants, and each name that was performed resolves to itself. Readers give both premises.
+pub fn script_calls_are_resolved()
+    ensures histories { ScriptAnswersAreHistories }
+    ensures performed { ScriptCallsAreResolved }
+{
+    sb_block::blocks_come_back();
+    sb_book::answers_keep_histories();
     sb_book::entries_say_what_was_done();
 }
 

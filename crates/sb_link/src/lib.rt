@@ -18,8 +18,8 @@ pub use faults::{LinkFault, LinkKind, LinksRefused};
 pub use laws::{
     logs_are_counted, logs_are_of_answers, longest_links_apply, names_resolve_to_names,
     order_does_not_matter, other_names_stay, performed_calls_are_resolved, read_links_are_links,
-    resolved_names_stay, same_names_resolve_alike, small_cases, stopped_calls_change_nothing,
-    written_links_are_read,
+    resolved_names_stay, same_names_resolve_alike, script_calls_are_resolved, small_cases,
+    stopped_calls_change_nothing, written_links_are_read,
 };
 pub use lines::{put_linked_line, put_stopped_line};
 pub use link_texts::read_links;

@@ -6,3 +6,4 @@ pub mod Serially
 pub mod Sound
 pub mod Staying
 pub mod Whole
+pub mod LeftOut

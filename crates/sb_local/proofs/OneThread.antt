@@ -362,7 +362,7 @@ its_results policies script report t ss h f = record {
   each = λ j s e. f.whole_results.each t 0 j s (statements_are script t ss h j ∙ e);
 }
 
-is_sound_of : (policies : List Policy) (script : Script) → IsReady policies script → is_sound script ≡ true
+pub is_sound_of : (policies : List Policy) (script : Script) → IsReady policies script → is_sound script ≡ true
 is_sound_of policies script r =
     let judges = list_all (is_judged (length policies)) script.targets in
     let parts = and_parts (is_sound script && are_well_made policies && judges) (is_ok (opened script.start)) r.ready in

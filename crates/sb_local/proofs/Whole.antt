@@ -1,6 +1,7 @@
 -- If its targets deny no call themselves, thinning leaves a script as it is.
-use Rattle.std.proofs.Common.{◌≡◌, ◌∙◌, refl, sym, ap, ℕ, ◌+◌, List, [], ◌∷◌, ◌++◌, true, map, Option, None, Some, is_none}
-use Rattle.std.proofs.lemmas.Bool.{and_parts}
+use Rattle.std.proofs.Common.{◌≡◌, ◌≢◌, ◌∙◌, refl, sym, ap, ℕ, ◌+◌, List, [], ◌∷◌, ◌++◌, Bool, true, false, map, Option, None, Some, is_none}
+use Rattle.std.proofs.lemmas.Bool.{and_parts, false≢true}
+use Rattle.std.specs.Prelude.{◌&&◌, Result, Ok, Err, OnErr}
 use Rattle.std.specs.List.{list_all}
 use Rattle.sb_call.specs.declared.tags.CallTag.{CallTag}
 use Rattle.sb_rule.specs.Verdicts.{policy_at}
@@ -16,6 +17,15 @@ use Rattle.sb_local.specs.Thinning.{denial_at, denied_from, denied_in_targets, d
 sent_if : (s : Statement) (o : Option (CallTag × Verdict)) (ys : List Statement) → is_none o ≡ true → statement_if_kept s o ++ ys ≡ s ∷ ys
 sent_if s None ys h = refl
 sent_if s (Some d) ys h = absurd (cc)
+
+both_empty : {X : Type 0} (xs ys : List X) → xs ++ ys ≡ [] → (xs ≡ []) × (ys ≡ [])
+both_empty [] ys h = (refl, h)
+both_empty (x ∷ xs) ys h = absurd (cc)
+
+both_true : (a b : Bool) → a ≡ true → b ≡ true → (a && b) ≡ true
+both_true true true e f = refl
+both_true true false e f = f
+both_true false b e f = e
 
 thread_is_whole : (policy : Policy) (ss : List Statement) → sends_thread policy ss ≡ true → thin_thread policy ss ≡ ss
 thread_is_whole policy [] h = refl
@@ -67,3 +77,36 @@ none_in_targets policies t (x ∷ xs) h =
 
 pub none_is_denied : (policies : List Policy) (script : Script) → send_all policies 0 script.targets ≡ true → [] ≡ (thin policies script).denied
 none_is_denied policies script h = sym (none_in_targets policies 0 script.targets h)
+
+-- and if no call is denied, its targets send all
+no_denial : (t k i : ℕ) (o : Option (CallTag × Verdict)) → denial_at t k i o ≡ [] → is_none o ≡ true
+no_denial t k i None h = refl
+no_denial t k i (Some d) h = absurd (cc)
+
+thread_is_sent : (policy : Policy) (t k i : ℕ) (ss : List Statement) → denied_from policy t k i ss ≡ [] → sends_thread policy ss ≡ true
+thread_is_sent policy t k i [] h = refl
+thread_is_sent policy t k i (s ∷ ss) h =
+    let parts = both_empty (denial_at t k i (denial_of policy s)) (denied_from policy t k (i + 1) ss) h in
+    both_true (is_sent policy s) (list_all (is_sent policy) ss) (no_denial t k i (denial_of policy s) parts.0) (thread_is_sent policy t k (i + 1) ss parts.1)
+
+threads_are_sent : (policy : Policy) (t k : ℕ) (threads : List (List Statement)) → denied_in_threads policy t k threads ≡ []
+    → list_all (sends_thread policy) threads ≡ true
+threads_are_sent policy t k [] h = refl
+threads_are_sent policy t k (ss ∷ more) h =
+    let parts = both_empty (denied_from policy t k 0 ss) (denied_in_threads policy t (k + 1) more) h in
+    both_true (sends_thread policy ss) (list_all (sends_thread policy) more) (thread_is_sent policy t k 0 ss parts.0) (threads_are_sent policy t (k + 1) more parts.1)
+
+targets_are_sent : (policies : List Policy) (t : ℕ) (xs : List TargetScript) → denied_in_targets policies t xs ≡ [] → send_all policies t xs ≡ true
+targets_are_sent policies t [] h = refl
+targets_are_sent policies t (x ∷ xs) h =
+    let parts = both_empty (denied_in_threads (policy_at policies t) t 0 x.threads) (denied_in_targets policies (t + 1) xs) h in
+    both_true (list_all (sends_thread (policy_at policies t)) x.threads) (send_all policies (t + 1) xs)
+    (threads_are_sent (policy_at policies t) t 0 x.threads parts.0) (targets_are_sent policies (t + 1) xs parts.1)
+
+pub some_is_denied : (policies : List Policy) (script : Script) → send_all policies 0 script.targets ≡ false → (thin policies script).denied ≢ []
+some_is_denied policies script h none = false≢true (sym h ∙ targets_are_sent policies 0 script.targets none)
+
+-- what holds holds after an error
+pub on_err : {A E : Type 0} (P : Type 0) (r : Result A E) → P → OnErr r P
+on_err P (Ok x) p = tt
+on_err P (Err e) p = p

@@ -4,3 +4,4 @@ pub mod Sending
 pub mod Lines
 pub mod Serial
 pub mod Laws
+pub mod LeftOut

@@ -1,8 +1,9 @@
 // Laws of thinned scripts. None of these functions does anything: each contract is a law.
 ghost use Rattle.sb_local.specs.Laws.{ActorsStay, CleanChannelsStay, DenialsAreDecisions, DeniedCallsChangeNothing, EachIsSentOrDenied, RunsOfOneThreadAreSerial, SentCallsAreForTheBroker, SettingsStay, StatementsHadTheirPlaces, ThinnedRunsAreSerial, ThinnedScriptsAreReady, ThinnedScriptsAreSound, ThinningAgainChangesNothing};
+ghost use Rattle.sb_local.specs.LeftOut.{CleanCallsAreDenied, WholeBlocksAreDenied};
 
 use sb_block::blocks_come_back;
-use sb_core::runs_fit;
+use sb_core::{runs_are_legal, runs_fit};
 use sb_statements::sound_parts;
 
 /// Each local denial is of the call at its place of the script as it was written, and is what the broker would have decided on the whole
@@ -12,6 +13,18 @@ pub fn denials_are_decisions()
 {
     sound_parts();
     blocks_come_back();
+}
+
+/// So the broker denies a call that is left out, with the same verdict, in every run of the script as it was written in which its block is copied
+/// as it was written. On a clean channel it always is: if a run leaves no thread unfinished, each reply there to a call that is left out is that of
+/// an entry which is Denied so. On a channel that is written directly another block may be copied in its place, and the broker decides on that.
+pub fn left_out_calls_are_denied()
+    ensures whole { WholeBlocksAreDenied }
+    ensures clean { CleanCallsAreDenied }
+{
+    denials_are_decisions();
+    runs_are_legal();
+    runs_fit();
 }
 
 /// Each statement of a thinned script is the one that was at its old place. Each statement of the script as it was written is sent, or is a

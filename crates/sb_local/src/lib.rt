@@ -11,8 +11,9 @@ mod thinning;
 
 pub use denials::LocalDenial;
 pub use laws::{
-    denials_are_decisions, denied_calls_change_nothing, runs_of_one_thread_are_serial,
-    statements_had_their_places, thinned_scripts_are_sound, thinning_again_changes_nothing,
+    denials_are_decisions, denied_calls_change_nothing, left_out_calls_are_denied,
+    runs_of_one_thread_are_serial, statements_had_their_places, thinned_scripts_are_sound,
+    thinning_again_changes_nothing,
 };
 pub use lines::denial_lines;
 pub use sending::SentScript;

@@ -1,5 +1,5 @@
 // What the targets of a script send of it.
-ghost use Rattle.std.specs.Prelude.{◌≡◌, ◌<◌, ◌≤◌, true, length, IfOk};
+ghost use Rattle.std.specs.Prelude.{◌≡◌, ◌≢◌, ◌<◌, ◌≤◌, [], true, length, IfOk, OnErr};
 ghost use Rattle.std.specs.List.{list_all};
 ghost use Rattle.sb_rule.specs.Verdicts.{policy_at};
 ghost use Rattle.sb_local.specs.Denials.{fits_its_call};
@@ -130,6 +130,7 @@ impl<'a> SentScript<'a> {
         ensures policies { IfOk result (λ sent. sent.ready.policies ≡ written.now.policies) }
         ensures script { IfOk result (λ sent. sent.ready.script ≡ (thin (J.policies judge.now) written.now.script).script) }
         ensures denied { IfOk result (λ sent. sent.denied ≡ (thin (J.policies judge.now) written.now.script).denied) }
+        ensures memory { OnErr result ((thin (J.policies judge.now) written.now.script).denied ≢ []) }
     {
         if is_sent_whole(judge, written.script()) {
             return Ok(SentScript {

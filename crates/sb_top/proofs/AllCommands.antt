@@ -34,7 +34,7 @@ abbrev command : Work → Values → Command
 command work values = record { work = work; values = values }
 
 -- its refusals name its files, and its ends are plain
-suited : (work : Work) (values : Values) → AreSuited (length (files_of (command work values))) (meaning_of (command work values))
+pub suited : (work : Work) (values : Values) → AreSuited (length (files_of (command work values))) (meaning_of (command work values))
 suited (Plain Check) values = check_suited
 suited (Plain Replay) values = replay_suited values.last
 suited (Plain Linked) values = linked_suited

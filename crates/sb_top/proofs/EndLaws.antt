@@ -1,16 +1,18 @@
 -- How commands end over files whose contents are known.
-use Rattle.std.proofs.Common.{◌≡◌, ◌∙◌, refl, sym, ap, subst, ℕ, ◌⊎◌, inl, inr, List, None, Some}
-use Rattle.std.specs.Prelude.{IsOkAnd, Result, Ok, Err, ◌∷◌, []}
+use Rattle.std.proofs.Common.{◌≡◌, ◌≢◌, ◌∙◌, refl, sym, ap, subst, ℕ, ◌⊎◌, inl, inr, List, Option, None, Some}
+use Rattle.std.specs.Prelude.{IfOk, IfSome, IsOkAnd, IsSome, Result, Ok, Err, ◌∷◌, [], option_map}
 use Rattle.std.proofs.lemmas.Option.{none-some}
 use Rattle.sb_outside.specs.Outside.{Held, Rose}
 use Rattle.sb_plain.specs.Contents.{Refusal, refused}
 use Rattle.sb_plain.specs.Effects.{Effect}
-use Rattle.sb_plain.specs.Endings.{IsCaused, IsEndFor, IsMeant, IsRefused, IsUnread, IsUnwritten}
-use Rattle.sb_plain.specs.Ends.{AreContents, Contents, End}
-use Rattle.sb_top.specs.Laws.{RefusalsAreMeant, WorkComesToItsEnd, contents_of}
+use Rattle.sb_plain.specs.Endings.{IsCaused, IsEndFor, IsMeant, IsRefused, IsUnwritten}
+use Rattle.sb_plain.specs.Ends.{AreContents, Contents, End, IsOrder, IsOrderOf, OnThreads, Plain, ScriptRun}
+use Rattle.sb_statements.specs.declared.schedules.Schedule.{Schedule}
+use Rattle.sb_top.specs.Laws.{IsMeantBy, RefusalsAreMeant, WorkComesToItsEnd, contents_of}
 use Rattle.sb_plain.specs.Outcomes.{file_of}
+use Rattle.sb_plain.specs.declared.outcomes.Outcome.{Outcome}
 use Rattle.sb_plain.specs.declared.outcomes.Status.{Status}
-use Rattle.sb_plain.specs.declared.outcomes.Status.TheVariants.{NoMemory, WriteFault}
+use Rattle.sb_plain.specs.declared.outcomes.Status.TheVariants.{NoMemory, ReadFault, WriteFault}
 
 -- ---- contents that are known
 
@@ -25,43 +27,66 @@ module _ (G S : Type 0) where
       → contents ≡ contents_of held names
   told names held e contents h is = known held names contents (subst (λ o. AreContents o names contents) is h)
 
-  pub work_comes_to_its_end : WorkComesToItsEnd G S
-  work_comes_to_its_end meaning names held e o end is quiet calm = by end.ends
+  -- ---- an end over contents of any kind
+
+  module _ (meaning : Contents → Result End Refusal) (contents : Contents) (e : Effect G S) (o : Outcome) where
+    unwritten : {P : Type 0} (r : Result End Refusal) → ((x : End) → IsUnwritten x e o → P) → IsOkAnd r (λ x. IsUnwritten x e o) → P
+    unwritten (Ok x) f u = f x u
+    unwritten (Err r) f u = absurd u
+
+    abbrev IsCausedHere : Status → Type 0
+    IsCausedHere s = IsCaused e.held (Rose e.reads e.reads') s
+
+    -- if no count rose it is as it is meant, or there was no memory
+    comes : IsCaused e.held (Rose e.reads e.reads') o.status → (Rose e.reads e.reads' → ⊥) → (Rose e.puts e.puts' → ⊥) → IsEndFor meaning contents e o
+        → IsMeant (meaning contents) e o ⊎ IsRefused (refused NoMemory) e o
+    comes caused quiet calm (inl m) = inl m
+    comes caused quiet calm (inr (inl u)) = absurd (quiet (subst IsCausedHere u.is.status caused))
+    comes caused quiet calm (inr (inr (inl u))) = absurd (unwritten {P = ⊥} (meaning contents) (λ x k. calm k.rose) u)
+    comes caused quiet calm (inr (inr (inr s))) = inr s
+
+    -- if its status names a file that was read it is as it is meant
+    refuses : (n : ℕ) → file_of o.status ≡ Some n → ((m : ℕ) → o.status ≢ ReadFault m) → IsEndFor meaning contents e o → IsMeant (meaning contents) e o
+    refuses n at other = by
+      where
+        no_file : {P : Type 0} (s : Status) → o.status ≡ s → file_of s ≡ None → P
+        no_file s is none = absurd (none-some n (sym none ∙ sym (ap file_of is) ∙ at))
+
+        by : IsEndFor meaning contents e o → IsMeant (meaning contents) e o
+        by (inl m) = m
+        by (inr (inl u)) = absurd (other u.file u.is.status)
+        by (inr (inr (inl u))) = unwritten (meaning contents) (λ x k. no_file WriteFault k.status refl) u
+        by (inr (inr (inr s))) = no_file NoMemory s.status refl
+
+  -- the order of an end that is as it is meant is one of its run
+  in_order : (order : Schedule) (r : Result End Refusal) (e : Effect G S) (o : Outcome) → (IsSome o.report → IfOk r (IsOrderOf order)) → IsMeant r e o
+      → IfOk r (IsOrderOf order)
+  in_order order (Ok end) e o ordered m = by end.run refl
     where
-      here : meaning end.contents ≡ meaning (contents_of held names)
-      here = ap meaning (told names held e end.contents end.held is)
+      by : (run : Option ScriptRun) → end.run ≡ run → IsOrderOf order end
+      by None is = subst (λ (x : Option ScriptRun). IfSome x (IsOrder order)) (sym is) tt
+      by (Some run) is = ordered (subst IsSome (sym (m.report ∙ ap (option_map (λ (x : ScriptRun). x.ran.report)) is)) refl)
+  in_order order (Err refusal) e o ordered m = tt
 
-      unread : IsUnread meaning end.contents e o → ⊥
-      unread u = quiet (subst (IsCausedHere) u.is.status end.caused)
-        where
-          IsCausedHere : Status → Type 0
-          IsCausedHere s = IsCaused e.held (Rose e.reads e.reads') s
+  -- ---- the contents that are known
 
-      unwritten : (r : Result End Refusal) → IsOkAnd r (λ x. IsUnwritten x e o) → ⊥
-      unwritten (Ok x) u = calm u.rose
-      unwritten (Err r) u = u
-
-      by : IsEndFor meaning end.contents e o → IsMeant (meaning (contents_of held names)) e o ⊎ IsRefused (refused NoMemory) e o
-      by (inl m) = inl (subst (λ r. IsMeant r e o) here m)
-      by (inr (inl u)) = absurd (unread u)
-      by (inr (inr (inl u))) = absurd (unwritten (meaning end.contents) u)
-      by (inr (inr (inr s))) = inr s
+  pub work_comes_to_its_end : WorkComesToItsEnd G S
+  work_comes_to_its_end (Plain meaning) names held e o end is quiet calm =
+      subst (λ c. IsMeant (meaning c) e o ⊎ IsRefused (refused NoMemory) e o) (told names held e end.contents end.held is)
+      (comes meaning end.contents e o end.caused quiet calm end.ends)
+  work_comes_to_its_end (OnThreads meaning) names held e o end is quiet calm =
+      subst (λ c. IsMeantBy (OnThreads meaning) c e o ⊎ IsRefused (refused NoMemory) e o) (told names held e end.contents end.held is)
+      (by (comes (meaning end.order) end.contents e o end.caused quiet calm end.ends))
+    where
+      by : IsMeant (meaning end.order end.contents) e o ⊎ IsRefused (refused NoMemory) e o
+          → IsMeantBy (OnThreads meaning) end.contents e o ⊎ IsRefused (refused NoMemory) e o
+      by (inl m) = inl (end.order, in_order end.order (meaning end.order end.contents) e o end.ordered m, m)
+      by (inr s) = inr s
 
   pub refusals_are_meant : RefusalsAreMeant G S
-  refusals_are_meant meaning names held e o n end is at other = by end.ends
-    where
-      here : meaning end.contents ≡ meaning (contents_of held names)
-      here = ap meaning (told names held e end.contents end.held is)
-
-      no_file : {P : Type 0} (s : Status) → o.status ≡ s → file_of s ≡ None → P
-      no_file s e none = absurd (none-some n (sym none ∙ sym (ap file_of e) ∙ at))
-
-      unwritten : {P : Type 0} (r : Result End Refusal) → IsOkAnd r (λ x. IsUnwritten x e o) → P
-      unwritten (Ok x) u = no_file WriteFault u.status refl
-      unwritten (Err r) u = absurd u
-
-      by : IsEndFor meaning end.contents e o → IsMeant (meaning (contents_of held names)) e o
-      by (inl m) = subst (λ r. IsMeant r e o) here m
-      by (inr (inl u)) = absurd (other u.file u.is.status)
-      by (inr (inr (inl u))) = unwritten (meaning end.contents) u
-      by (inr (inr (inr s))) = no_file NoMemory s.status refl
+  refusals_are_meant (Plain meaning) names held e o n end is at other =
+      subst (λ c. IsMeant (meaning c) e o) (told names held e end.contents end.held is) (refuses meaning end.contents e o n at other end.ends)
+  refusals_are_meant (OnThreads meaning) names held e o n end is at other =
+      let m = refuses (meaning end.order) end.contents e o n at other end.ends in
+      subst (λ c. IsMeantBy (OnThreads meaning) c e o) (told names held e end.contents end.held is)
+      (end.order, in_order end.order (meaning end.order end.contents) e o end.ordered m, m)

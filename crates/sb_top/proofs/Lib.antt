@@ -11,3 +11,6 @@ pub mod Totalling
 pub mod Verdicts
 pub mod AllCommands
 pub mod Running
+pub mod Clean
+pub mod Deciding
+pub mod Promising

@@ -1,5 +1,5 @@
 -- The totals of a report that fits a script of calls with clean channels are those of the verdicts, and it has one result for each statement.
-use Rattle.std.proofs.Common.{◌≡◌, ◌∙◌, refl, ap, sym, subst, ℕ, zero, suc, ◌+◌, ◌*◌, ◌/◌, ◌<◌, ◌≤◌, Bool, true, false, cond, ◌&&◌, ◌==◌, true≢false, List, [], ◌∷◌, ◌++◌, length, map, get_or, Option, Some, None, slice_get, codes, lit≤, arith}
+use Rattle.std.proofs.Common.{◌≡◌, ◌∙◌, refl, ap, sym, subst, ℕ, zero, suc, ◌+◌, ◌/◌, ◌<◌, ◌≤◌, Bool, true, false, cond, ◌&&◌, ◌==◌, true≢false, List, [], ◌∷◌, ◌++◌, length, map, get_or, Option, Some, None, slice_get, codes, arith}
 use Rattle.std.specs.Prelude.{slice_index, nat_le, is_ok}
 use Rattle.std.specs.List.{count_by, filter, list_all, sum_by}
 use Rattle.std.proofs.lemmas.Bool.{and_parts}
@@ -34,7 +34,7 @@ use Rattle.sb_rule.specs.declared.policies.Policy.{Policy}
 use Rattle.sb_rule.specs.declared.verdicts.Verdict.{Verdict}
 use Rattle.sb_rule.specs.declared.verdicts.Verdict.TheVariants as verdict
 use Rattle.sb_statements.specs.Actors.{thread_count}
-use Rattle.sb_statements.specs.Soundness.{SoundStatements, SoundTargets, are_targets, channels_of, is_patience, is_sound, is_start, is_statement, is_target, is_thread, names_differ}
+use Rattle.sb_statements.specs.Soundness.{SoundStatements, SoundTargets, channels_of, is_sound, is_statement, is_thread}
 use Rattle.sb_statements.specs.Units.{script_has_units, statement_has_units, target_has_units, thread_has_units}
 use Rattle.sb_statements.specs.declared.results.StmtResult.{StmtResult}
 use Rattle.sb_statements.specs.declared.scripts.Script.{Script}
@@ -43,6 +43,7 @@ use Rattle.sb_statements.specs.declared.statements.Statement.{Statement}
 use Rattle.sb_statements.specs.declared.statements.Statement.TheVariants.{Call, Store, Exchange, Load, Wait}
 use Rattle.sb_transcript.specs.Totals.{count_of, counted, is_denied, is_faked, is_performed, is_refused}
 use Rattle.sb_top.specs.Totals.{AllClean, TotalsAreOfVerdicts, are_calls, decided, decided_in, is_decided, statement_count, statements_in}
+use Rattle.sb_core.proofs.EntryCounts.{statements_are_few}
 use Rattle.sb_top.proofs.Sums.{Placed, count_first, counted_once, same_both, same_upto, sum_list, tally, upto, within_length}
 use Rattle.sb_top.proofs.Verdicts.{AreTrue, IsCall, both_true, leads, length_upto, some_same, some_true, thread_leads, true_at, true_upto}
 
@@ -91,65 +92,17 @@ results_are_statements script results all =
     ∙ sym (targets_sum (λ target statements. length statements) script.targets))
 
 -- a script that is ready is sound
-ready_sound : (policies : List Policy) (script : Script) → is_ready policies script ≡ true → is_sound script ≡ true
+pub ready_sound : (policies : List Policy) (script : Script) → is_ready policies script ≡ true → is_sound script ≡ true
 ready_sound policies script h =
     (and_parts (is_sound script) (are_well_made policies)
     (and_parts (is_sound script && are_well_made policies) (list_all (is_judged (length policies)) script.targets)
     (and_parts (is_sound script && are_well_made policies && list_all (is_judged (length policies)) script.targets) (is_ok (opened script.start)) h).0).0).0
 
--- ---- how many statements there are
-
-abbrev threads_all : List TargetScript → List (List Statement) → Bool
-threads_all targets threads = list_all (is_thread targets) threads
-
-few_in_threads : (targets : List TargetScript) (threads : List (List Statement)) → threads_all targets threads ≡ true
-    → sum_by (λ statements. length statements) threads ≤ length threads * 4096
-few_in_threads targets [] h = lit≤ tt
-few_in_threads targets (statements ∷ threads) h =
-    let parts = and_parts (is_thread targets statements) (threads_all targets threads) h in
-    let low = (and_parts (nat_le (length statements) 4096) (list_all (is_statement targets) statements) parts.0).0 in
-    let first : length statements ≤ 4096 = grind (arith, nat_tests, low) in
-    let rest = few_in_threads targets threads parts.1 in
-    let more = sum_by-cons (λ (s : List Statement). length s) statements threads in
-    let step : length (statements ∷ threads) * 4096 ≡ length threads * 4096 + 4096 = omega arith in
-    omega (arith, first, rest, more, step)
-
-few_in_target : (targets : List TargetScript) (target : TargetScript) → is_target targets target ≡ true → statements_in target ≤ 16384
-few_in_target targets target h =
-    let few = nat_le (length target.threads) 4 in
-    let all = and_parts (nat_le 1 target.channels && nat_le target.channels 8 && few) (threads_all targets target.threads) h in
-    let low = (and_parts (nat_le 1 target.channels && nat_le target.channels 8) few all.0).1 in
-    let count : length target.threads ≤ 4 = grind (arith, nat_tests, low) in
-    let sum = few_in_threads targets target.threads all.1 in
-    omega (arith, count, sum)
-
-few_in_targets : (targets some : List TargetScript) → list_all (is_target targets) some ≡ true → sum_by statements_in some ≤ length some * 16384
-few_in_targets targets [] h = lit≤ tt
-few_in_targets targets (target ∷ some) h =
-    let parts = and_parts (is_target targets target) (list_all (is_target targets) some) h in
-    let first = few_in_target targets target parts.0 in
-    let rest = few_in_targets targets some parts.1 in
-    let more = sum_by-cons statements_in target some in
-    let step : length (target ∷ some) * 16384 ≡ length some * 16384 + 16384 = omega arith in
-    omega (arith, first, rest, more, step)
-
-few_statements : (script : Script) → is_sound script ≡ true → statement_count script ≤ 131072
-few_statements script h =
-    let few = nat_le (length script.start) 4096 in
-    let starts = list_all is_start script.start in
-    let each = list_all (is_target script.targets) script.targets in
-    let targets = (and_parts (is_patience script.patience && few && starts) (are_targets script.targets) h).1 in
-    let parts = and_parts (nat_le (length script.targets) 8 && names_differ script.targets) each targets in
-    let low = (and_parts (nat_le (length script.targets) 8) (names_differ script.targets) parts.0).0 in
-    let count : length script.targets ≤ 8 = grind (arith, nat_tests, low) in
-    let sum = few_in_targets script.targets script.targets parts.1 in
-    omega (arith, count, sum)
-
 -- so a report that fits has few results
 pub few_results : (policies : List Policy) (script : Script) (report : Report) → is_ready policies script ≡ true → Fits policies script report → result_count report.results ≤ most_results
 few_results policies script report ready fits =
     let count = results_are_statements script report.results fits.whole_results in
-    let few = few_statements script (ready_sound policies script ready) in
+    let few = statements_are_few script (ready_sound policies script ready) in
     omega (arith, count, few)
 
 -- ---- what holds of each statement and of each entry

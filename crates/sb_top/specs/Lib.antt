@@ -7,3 +7,6 @@ pub mod Exits
 pub mod Laws
 pub mod Orders
 pub mod Sound
+pub mod Decided
+pub mod PromisedRuns
+pub mod Promise

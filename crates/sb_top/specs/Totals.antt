@@ -1,10 +1,11 @@
 -- The totals that verdicts over all statements give, if each statement is a call and every channel is clean.
-use Rattle.std.specs.Prelude.{◌≡◌, ℕ, Bool, true, false, List, ◌++◌, length, count_by, sum_by, codes}
+use Rattle.std.specs.Prelude.{◌≡◌, ℕ, Bool, true, false, List, ◌++◌, count_by, sum_by, codes}
 use Rattle.std.specs.List.{list_all}
 use Rattle.sb_book.specs.Decisions.{by_verdict}
 use Rattle.sb_book.specs.Readiness.{IsReady}
 use Rattle.sb_book.specs.declared.decisions.Decision.{Decision}
 use Rattle.sb_book.specs.declared.reports.Report.{Report}
+pub use Rattle.sb_core.specs.EntryCounts.{statement_count, statements_in}
 use Rattle.sb_core.specs.Fits.{Fits}
 use Rattle.sb_local.specs.Serial.{is_call}
 use Rattle.sb_rule.specs.Verdicts.{policy_at, verdict_of}
@@ -31,14 +32,6 @@ decided_in is_such policies target = sum_by (λ statements. count_by (is_decided
 -- and of a script
 abbrev pub decided : (Decision → Bool) → List Policy → Script → ℕ
 decided is_such policies script = sum_by (decided_in is_such policies) script.targets
-
--- how many statements a target has
-abbrev pub statements_in : TargetScript → ℕ
-statements_in target = sum_by (λ statements. length statements) target.threads
-
--- and a script
-abbrev pub statement_count : Script → ℕ
-statement_count script = sum_by statements_in script.targets
 
 -- as many entries and results as statements; how many calls are performed, faked and denied by their verdicts; and no block is refused
 abbrev pub totals_by : List Policy → Script → List ℕ

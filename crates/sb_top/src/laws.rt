@@ -1,5 +1,4 @@
 // Laws of how a command ends, of reports, and of totals. None of these functions does anything: each contract is a law.
-ghost use Rattle.sb_top.specs.Audits.{ReplaysAreAudited};
 ghost use Rattle.sb_top.specs.Laws.{RefusalsAreMeant, StatusesAreOfCommands, WorkComesToItsEnd};
 ghost use Rattle.sb_top.specs.Orders.{OrdersAreReplayed, ThreadedRunsAreReplayed};
 ghost use Rattle.sb_plain.specs.Sound.{RunsAreSound};
@@ -8,7 +7,10 @@ ghost use Rattle.sb_top.specs.Totals.{TotalsAreOfVerdicts};
 
 use sb_audit::reports_that_fit_are_audited;
 use sb_block::blocks_come_back;
-use sb_core::{no_block_is_invented, runs_are_legal, runs_are_whole, runs_fit, steps_are_folds};
+use sb_core::{
+    entries_are_at_most_statements, no_block_is_invented, runs_are_legal, runs_are_whole, runs_fit,
+    steps_are_folds,
+};
 use sb_local::thinned_scripts_are_sound;
 use sb_ruletext::read_policies_are_well_made;
 use sb_scripttext::{
@@ -16,13 +18,15 @@ use sb_scripttext::{
     written_schedules_are_short,
 };
 use sb_statements::sound_parts;
+use sb_transcript::transcripts_are_short;
 
-/// Over files whose contents are known, and if neither count of faults rose, a command ends as it means, if there was memory.
+/// Over files whose contents are known, and if neither count of faults rose, each command ends as it means, if there was memory. A command that runs on threads
+/// does so if it returns, by some order of steps that leaves no thread unfinished.
 pub fn work_comes_to_its_end<G, S>()
     ensures { WorkComesToItsEnd G S }
 {}
 
-/// Over files whose contents are known, a status that names a file, except that it was not read, is what the command means.
+/// Over files whose contents are known, a status that names a file, except that it was not read, is what the command means. So it is for each command.
 pub fn refusals_are_meant<G, S>()
     ensures { RefusalsAreMeant G S }
 {}
@@ -41,6 +45,8 @@ pub fn runs_are_sound()
     runs_are_whole();
     runs_fit();
     no_block_is_invented();
+    entries_are_at_most_statements();
+    transcripts_are_short();
     reports_that_fit_are_audited();
 }
 
@@ -53,13 +59,6 @@ pub fn reports_are_sound()
     read_scripts_are_ready();
     read_schedules_are_bounded();
     thinned_scripts_are_sound();
-}
-
-/// What `replay` writes if it is done passes an audit under the policies and the script that it read.
-pub fn replays_are_audited()
-    ensures { ReplaysAreAudited }
-{
-    reports_are_sound();
 }
 
 /// If each statement of a script is a call and every channel is clean, the totals of each report that fits the script are those that the
