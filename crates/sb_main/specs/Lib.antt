@@ -1,3 +1,4 @@
 pub mod Gathering
 pub mod Faulty
 pub mod Answers
+pub mod Program

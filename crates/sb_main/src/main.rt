@@ -1,7 +1,9 @@
 // The program: the arguments of its command line, real files and standard output, and how it ends.
 #![tactic(auto)]
 
-ghost use Rattle.std.specs.Prelude.{◌≡◌, None, Err, IfSome, IsSome};
+mod complaints;
+
+ghost use Rattle.std.specs.Prelude.{◌≡◌, None, Err, [], drop, IfErr, IfOk, IfSome, IsSome, if◌then◌else◌};
 ghost use Rattle.sb_outside.specs.Outside.{Rose};
 ghost use Rattle.sb_commands.specs.Commands.{command_of};
 ghost use Rattle.sb_commands.specs.Inquiries.{answer_text, asked, asked_of};
@@ -12,98 +14,138 @@ ghost use Rattle.sb_top.specs.Exits.{code_of};
 ghost use Rattle.sb_main.specs.Gathering.{gathering_status};
 ghost use Rattle.sb_main.specs.Answers.{IsAnswer, IsTold};
 ghost use Rattle.sb_main.specs.Faulty.{IsFaulty};
+ghost use Rattle.sb_main.specs.Program.{IsComplaint, IsUnanswered, IsSettled, IsUngathered, bare, output};
 
+use crate::complaints::complain;
 use sb_base::NoMemory;
 use sb_commands::{Inquiry, UsageFault, inquiry_of, inquiry_text};
 use sb_outside::{Files, HostFiles, HostSink, OpenGate, PIECE, Sink, put_text};
 use sb_plain::{Outcome, Status};
-use sb_top::{Complaint, exit_code, message, plain_top, statuses_are_of_commands, threads_top};
+use sb_top::{exit_code, plain_top, statuses_are_of_commands, threads_top};
 use std::alloc::Global;
-use std::io::{ErrorKind, IsTerminal};
+use std::io::{ErrorKind, IsTerminal, Write};
 use std::process::ExitCode;
 use std::rt::Env;
 use std::sync::Wait;
 use std::thread::Threads;
-use std::{env, io, rt};
+use std::{env, io};
 
 fn main(rt: HostRuntime) -> ExitCode {
-    ExitCode::from(run(&rt, rt.stdout().is_terminal()))
+    let arguments = given_arguments(&rt);
+    let mut files = HostFiles::new(&rt);
+    let piece = piece_for(rt.stdout().is_terminal());
+    let mut out = stream(rt.alloc(), io::writer(&rt), piece);
+    let mut errors = stream(rt.alloc(), rt.stderr(), 0);
+    ExitCode::from(run(&rt, arguments, &mut files, &mut out, &mut errors))
 }
 
-// An outcome before a command is carried out: it has no report.
+// The arguments, of which the first is the name of the program, as the system gives them.
+fn given_arguments<R: Env + AllocGlobal>(rt: &R) -> Result<Vec<String>, Status>
+    ensures { IfErr result IsUngathered }
+{
+    match env::args(rt) {
+        Ok(arguments) => {
+            let all: Result<Vec<String>, _> = arguments.collect(rt.alloc());
+            match all {
+                Ok(all) => Ok(all),
+                Err(_) => Err(Status::NoMemory),
+            }
+        }
+        Err(error) => Err(no_words(error.kind())),
+    }
+}
+
+// How many bytes a piece of the output has: none to a terminal, where each put is written at once.
+fn piece_for(is_terminal: bool) -> usize
+    ensures { result ≡ if is_terminal then 0 else 65536 }
+{
+    if is_terminal { 0 } else { PIECE }
+}
+
+// A stream of the system as an output, which holds back less than a piece. There need be no memory for a piece: without it all is written at once.
+fn stream<W: Write + Drop>(alloc: Global, writer: W, piece: usize) -> HostSink<W>
+    ensures writer { result.writer ≡ writer }
+    ensures piece { result.piece ≡ piece }
+    ensures empty { result.pending.items ≡ [] }
+    ensures faults { result.faults ≡ 0 }
+{
+    HostSink {
+        writer,
+        pending: Vec::new(alloc),
+        piece,
+        faults: 0,
+    }
+}
+
+// All that the program does with its arguments, over any files and any two outputs: does what they ask, tells on the second output what went wrong, and
+// returns the exit code.
+fn run<R: AllocGlobal + Threads + Wait + Sync, F: Files, K: Sink, E: Sink>(
+    rt: &R,
+    arguments: Result<Vec<String>, Status>,
+    files: &mut F,
+    out: &mut K,
+    errors: &mut E,
+) -> u8
+    // What the arguments after the first ask is done once; the message of its outcome is told once; and the exit code is that of its status.
+    ensures settled { IfOk arguments (λ all. IsSettled (texts (drop 1 all.items))
+        (effect F.held F.faults K.written K.pending K.faults files.old files.new out.old out.new)
+        (output E.written E.pending E.faults errors.old) (output E.written E.pending E.faults errors.new) result) }
+
+    // If there are none, why is told once, the exit code is that of it, and nothing else is done.
+    ensures refused { IfErr arguments (λ status. IsUnanswered status
+        (effect F.held F.faults K.written K.pending K.faults files.old files.new out.old out.new)
+        (output E.written E.pending E.faults errors.old) (output E.written E.pending E.faults errors.new) result) }
+{
+    match arguments {
+        Ok(all) => settle(rt, after_name(&all), files, out, errors),
+        Err(status) => refuse(rt.alloc(), status, errors),
+    }
+}
+
+// The arguments after the name of the program.
+fn after_name(arguments: &[String]) -> &[String]
+    ensures { result.now ≡ drop 1 arguments.now }
+{
+    match arguments {
+        [_, words @ ..] => words,
+        [] => &[],
+    }
+}
+
+// Does what the arguments ask, and tells what went wrong: the exit code.
+fn settle<R: AllocGlobal + Threads + Wait + Sync, F: Files, K: Sink, E: Sink>(
+    rt: &R,
+    words: &[String],
+    files: &mut F,
+    out: &mut K,
+    errors: &mut E,
+) -> u8
+    ensures { IsSettled (texts words.now) (effect F.held F.faults K.written K.pending K.faults files.old files.new out.old out.new)
+        (output E.written E.pending E.faults errors.old) (output E.written E.pending E.faults errors.new) result }
+{
+    let outcome = answer(rt, words, files, out);
+    complain(rt.alloc(), words, &outcome, errors);
+    exit_code(outcome.status)
+}
+
+// Tells why there are no arguments: the exit code.
+fn refuse<E: Sink>(alloc: Global, status: Status, errors: &mut E) -> u8
+    ensures told { IsComplaint [] (bare status) (output E.written E.pending E.faults errors.old) (output E.written E.pending E.faults errors.new) }
+    ensures code { result ≡ code_of status }
+{
+    complain(alloc, &[], &outcome_of(status), errors);
+    exit_code(status)
+}
+
+// An outcome before a command is carried out: it has no report, and shows nothing.
 fn outcome_of(status: Status) -> Outcome
-    ensures { result ≡ record { status = status; shown = None; report = None } }
+    ensures { result ≡ bare status }
 {
     Outcome {
         status,
         shown: None,
         report: None,
     }
-}
-
-// Says on standard error what went wrong, if anything did, and tells the notes of `check`. What is not written there changes nothing.
-fn complain<R: Eprint + AllocGlobal>(rt: &R, words: &[String], outcome: &Outcome) {
-    match message(rt.alloc(), words, outcome) {
-        Ok(text) => {
-            if !text.is_empty() {
-                let _ = eprint!(rt; "{text}");
-            }
-        }
-        Err(NoMemory) => {
-            if !matches!(outcome.status, Status::Done) {
-                let _ = rt.eprintln(Complaint {
-                    status: outcome.status,
-                });
-            }
-        }
-    }
-}
-
-// Gathers the arguments after the program's name, does what they ask, and says what went wrong: the exit code. What is put to a terminal is written at
-// once.
-fn run<R: Env + rt::Files + Print + Eprint + AllocGlobal + Threads + Wait + Sync>(
-    rt: &R,
-    is_terminal: bool,
-) -> u8 {
-    let arguments = match env::args(rt) {
-        Ok(arguments) => arguments,
-        Err(error) => return refuse(rt, no_words(error.kind())),
-    };
-    let all: Result<Vec<String>, _> = arguments.collect(rt.alloc());
-    let Ok(all) = all else {
-        return refuse(rt, Status::NoMemory);
-    };
-    match all.as_slice() {
-        [_, words @ ..] => {
-            let mut files = HostFiles::new(rt);
-            let piece = if is_terminal { 0 } else { PIECE };
-            match HostSink::new(rt.alloc(), io::writer(rt), piece) {
-                Ok(mut out) => settle(rt, words, &mut files, &mut out),
-                Err(NoMemory) => refuse(rt, Status::NoMemory),
-            }
-        }
-        [] => refuse(rt, Status::Usage(UsageFault::NoCommand)),
-    }
-}
-
-// Does what the arguments ask, and says what went wrong: the exit code.
-fn settle<R: Eprint + AllocGlobal + Threads + Wait + Sync, F: Files, K: Sink>(
-    rt: &R,
-    words: &[String],
-    files: &mut F,
-    out: &mut K,
-) -> u8 {
-    let outcome = answer(rt, words, files, out);
-    complain(rt, words, &outcome);
-    exit_code(outcome.status)
-}
-
-// Says why there are no arguments: the exit code.
-fn refuse<R: Eprint + AllocGlobal>(rt: &R, status: Status) -> u8
-    ensures { result ≡ code_of status }
-{
-    complain(rt, &[], &outcome_of(status));
-    exit_code(status)
 }
 
 // Arguments that were not gathered are not UTF-8, or there was no memory for them.
@@ -128,6 +170,7 @@ fn answer<R: AllocGlobal + Threads + Wait + Sync, F: Files, K: Sink>(
         (effect F.held F.faults K.written K.pending K.faults files.old files.new out.old out.new) result }
     ensures asked { IfSome (asked_of (texts words.now)) (λ a. IsTold (answer_text a) (K.written out.old) (K.pending out.old) (K.written out.new) (K.pending out.new)
         (Rose (K.faults out.old) (K.faults out.new)) result.status) }
+    ensures unshown { IsSome (asked_of (texts words.now)) → result.shown ≡ None }
     ensures untouched { IsSome (asked_of (texts words.now)) → files.new ≡ files.old }
 {
     match inquiry_of(words) {
@@ -136,7 +179,7 @@ fn answer<R: AllocGlobal + Threads + Wait + Sync, F: Files, K: Sink>(
     }
 }
 
-// Leaves arguments to the top calls, which end with Usage only if the arguments are no command, and with their fault.
+// Carries out what the arguments ask, which ends with Usage only if they are no command, and with their fault.
 fn answer_command<R: AllocGlobal + Threads + Wait + Sync, F: Files, K: Sink>(
     rt: &R,
     words: &[String],
@@ -151,7 +194,8 @@ fn answer_command<R: AllocGlobal + Threads + Wait + Sync, F: Files, K: Sink>(
     carry_out(rt, words, files, out)
 }
 
-// Carries out the command that the arguments are: on threads only if it is handed back by the call that does without them.
+// Carries out the command that the arguments are, with the meaning of `broker_top`. It can wait only after the call that cannot wait has handed back a
+// command that runs on threads.
 fn carry_out<R: AllocGlobal + Threads + Wait + Sync, F: Files, K: Sink>(
     rt: &R,
     words: &[String],
