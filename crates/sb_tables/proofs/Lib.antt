@@ -1,3 +1,4 @@
+pub mod Apart
 pub mod Counts
 mod Crossing
 mod Dealing

@@ -74,6 +74,17 @@ fn ready_by(alloc: Global, policy: &[u8], script: &[u8]) -> Result<ReadyScript, 
     }
 }
 
+/// The text whose only policy has these rules, separated by semicolons. The first is on line 3.
+pub fn text_of_rules(alloc: Global, rules: &str) -> Result<String, RowFault> {
+    lines(alloc, "sandbox-policy 1\npolicy web\n", "", rules)
+}
+
+/// The policies of the text of rules.
+pub fn policies_of_rules(alloc: Global, rules: &str) -> Result<WellMadePolicies, RowFault> {
+    let text = text_of_rules(alloc, rules)?;
+    policies_of(alloc, text.as_str().as_bytes())
+}
+
 // The policies of a text.
 fn policies_of(alloc: Global, policy: &[u8]) -> Result<WellMadePolicies, RowFault> {
     if policy.len() > MOST_BYTES {

@@ -1,14 +1,16 @@
-// Prints table tests of functions: of files and outputs of the system, of an index, of messages, of the pool of works, and of the memory that
-// the threads of a run share. It also does works that no command does alone, in a given number of rounds, so that bench/run can take
-// the time. A row is a function with its arguments, which bars divide, and what it gives is printed after it. Some
-// rows start threads; what they give is the same in whatever order the threads make their steps. The rows are in files, which the
-// arguments name; what is printed is compared with the file `stdout` of this crate, which holds the same rows with the values that are
-// right. If memory runs out the program ends with an error.
+// Prints table tests of functions: of files and outputs of the system, of an index, of rules, codes and scripts, of the nodes of an arena, of
+// single lines of a transcript, of messages, of the pool of works, and of the memory that the threads of a run share. It also does works
+// that no command does alone, in a given number of rounds, so that bench/run can take the time. A row is a function with its arguments,
+// which bars divide, and what it gives is printed after it. Some rows start threads; what they give is the same in whatever order the
+// threads make their steps. The rows are in files, which the arguments name; what is printed is compared with the file `stdout` of this
+// crate, which holds the same rows with the values that are right. If memory runs out the program ends with an error.
 #![tactic(auto)]
 
 mod answering;
+mod arenas;
 mod bytes;
 mod closings;
+mod codes;
 mod copies;
 mod crews;
 mod crowding;
@@ -16,12 +18,15 @@ mod host;
 mod indexes;
 mod inputs;
 mod judging;
+mod lines;
 mod messages;
 mod openings;
 mod players;
 mod plays;
+mod policies;
 mod pools;
 mod rows;
+mod scripts;
 mod shows;
 mod stops;
 mod works;

@@ -1,5 +1,6 @@
 // Steps of the seats of one shared world, beside the same steps of the core.
-ghost use Rattle.std.specs.Prelude.{◌≡◌, true, OnOk};
+ghost use Rattle.std.specs.Prelude.{◌≡◌, ◌<◌, ◌^◌, true, IfOk, OnOk};
+ghost use Rattle.sb_book.specs.Reports.{result_count};
 ghost use Rattle.std.specs.List.{list_all};
 ghost use Rattle.sb_shared.specs.Origins.{setting_in};
 ghost use Rattle.sb_statements.specs.Actors.{is_step_there};
@@ -60,6 +61,7 @@ pub fn core_report(
     schedule: &Schedule,
 ) -> Result<Report, RowFault>
     requires { list_all (is_step_there inputs.now.script.targets) schedule.now.steps ≡ true }
+    ensures { IfOk result (λ report. result_count report.results < 2 ^ 62) }
 {
     let judge = Programs::new(alloc, inputs.policies(), inputs.script())?;
     let ran = run(alloc, &judge, inputs.start(alloc)?, schedule)?;

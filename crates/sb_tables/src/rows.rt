@@ -1,7 +1,10 @@
 // The value of a row.
 
 use crate::inputs::inputs_of;
-use crate::{crews, host, indexes, messages, plays, pools, stops, works};
+use crate::{
+    arenas, codes, crews, host, indexes, lines, messages, plays, policies, pools, scripts, stops,
+    works,
+};
 use sb_book::ReadyScript;
 use sb_rows::{RowFault, arguments, number};
 use std::alloc::Global;
@@ -31,6 +34,13 @@ fn value_by<R: Files + AllocGlobal + Threads + Wait + Sync>(
         "HostFiles::read" => host::reads_of(rt, alloc, parts),
         "HostSink::put" => host::puts_of(alloc, parts),
         "messages" | "candidates" => plain_value(alloc, name, parts),
+        "all_well_made" | "matches_plain" | "read_notes" | "verdict_plain" | "well_made" => {
+            policies::value_of(alloc, name, parts)
+        }
+        "verify" | "verify_words" | "eval" => codes::value_of(alloc, name, parts),
+        "sound" | "SoundScript::new" | "clean" => scripts::value_of(alloc, name, parts),
+        "arena" => arenas::told_steps(alloc, parts),
+        "line" => lines::told_line(alloc, parts),
         "Pool::draw" | "Pool::close" => pools::value_of(rt, alloc, name, parts),
         "steps" | "stops" | "looks" | "threads" => script_value(rt, alloc, name, parts),
         "crowd-add" | "crowd-find" | "crowd-rename" | "judge" | "judge-plain" | "transcript" => {

@@ -52,7 +52,7 @@ fn results_of(alloc: Global, entries: EntrySlice<'_>) -> Result<Results, RowFaul
         if let Some(entry) = entries.get(place) {
             replies.push(StmtResult::Call(CallResult::Reply {
                 channel: entry.channel(),
-                reply: entry.reply(),
+                reply: entry.reply().copy(),
             }))?;
         }
     }
