@@ -22,7 +22,8 @@ import re
 import sys
 
 TOP = os.path.dirname(os.path.dirname(os.path.realpath(__file__)))
-DOCUMENTS = sorted(glob.glob("*.md", root_dir=TOP) + glob.glob("docs/*.md", root_dir=TOP))
+# docs/LAWS.md is made of the sources
+DOCUMENTS = sorted(set(glob.glob("*.md", root_dir=TOP) + glob.glob("docs/*.md", root_dir=TOP)) - {"docs/LAWS.md"})
 SOURCES = [".rt", ".antt", ".py", ".txt", ".policy", ".script", ".schedule", ".rows", ".edit", ""]
 # what a reader fills in, a name that begins with `-`, any name, and files of Chromium
 OTHERS = re.compile(r"\b[A-Z]{2,}\b|/-|\*|\.(?:cc|h)$|^sandbox/win")
@@ -33,6 +34,8 @@ CONTRACT = re.compile(r"(sb_\w+)::([A-Za-z_]\w*(?:::\w+)?)(?:\.(\w+))?")
 NAME = re.compile(r"[A-Za-z_]\w*(?:(?:::|\.)[A-Za-z_]\w*)*(?:\(\))?")
 # the names that follow the name of a crate
 OF_CRATE = re.compile(r"\b(sb_\w+)((?:\s+`[^`]+`(?:,| and)?)+)")
+# a definition within a module of a file of specs/
+INNER = re.compile(r"  (?:(?:abbrev|unfoldable) pub|pub (?:record|data)) ([A-Za-z_][\w'-]*) *[:({]")
 FILE = re.compile(r"[\w.*-]*/[\w./*-]*|[\w-]+\.(?:rt|antt|md|py|txt|rows|policy|script|schedule|edit)")
 
 
@@ -126,7 +129,7 @@ def items_of_specs(text):
     """The definitions that a file of specs/ has, each with the fields of its record."""
     items, name = {}, None
     for line in text.splitlines():
-        declared = re.match(r"(?:(?:abbrev|unfoldable|pub|record|data) )*([A-Za-z_][\w'-]*) *[:({]", line)
+        declared = re.match(r"(?:(?:abbrev|unfoldable|pub|record|data) )*([A-Za-z_][\w'-]*) *[:({]", line) or INNER.match(line)
         field = re.match(r" +(?:pub )?([\w'-]+) :", line)
         if declared:
             name = declared[1]

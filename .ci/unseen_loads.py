@@ -1,0 +1,38 @@
+#!/usr/bin/env python3
+"""Looks for loads of an atomic table that no contract sees, in the sources of each crate that uses `atomic_table`.
+
+A load by a seat is a step of the table's rule, and contracts speak of it. `peek` needs no seat, `load_new_seat` makes one of its own, and
+what is below `raw` reads memory without a table: none of them may be called.
+"""
+import glob
+import os
+import re
+import sys
+
+TOP = os.path.dirname(os.path.dirname(os.path.realpath(__file__)))
+UNSEEN = re.compile(r"\bpeek\b|\bload_new_seat\b|\braw\s*::")
+
+
+def crates():
+    """The crates whose line of crates.txt names `atomic_table`."""
+    with open(os.path.join(TOP, "crates.txt"), encoding="utf-8") as file:
+        for line in file:
+            name, _, libraries = line.partition("#")[0].partition(":")
+            if "atomic_table" in libraries.split():
+                yield name.split()[0]
+
+
+def main():
+    found = False
+    for crate in crates():
+        for path in sorted(glob.glob("crates/%s/src/**/*.rt" % crate, root_dir=TOP, recursive=True)):
+            with open(os.path.join(TOP, path), encoding="utf-8") as file:
+                for number, line in enumerate(file, 1):
+                    for name in UNSEEN.findall(line.partition("//")[0]):
+                        print("unseen_loads: %s:%d: %s" % (path, number, name), file=sys.stderr)
+                        found = True
+    sys.exit(1 if found else 0)
+
+
+if __name__ == "__main__":
+    main()
