@@ -7,7 +7,7 @@ use Rattle.sb_actor.specs.Places.{is_finished}
 use Rattle.sb_actor.specs.WorkerStages.{WorkerAt, WorkerStage, Look}
 use Rattle.sb_actor.specs.WorkerTable.{is_looking}
 use Rattle.sb_book.specs.Readiness.{IsReady}
-use Rattle.sb_shared.specs.Closing.{AreFinished, AreWorkers, IsClosed, IsThreadSeat, IsWorkerSeat}
+use Rattle.sb_shared.specs.Closing.{AreFinished, AreThreads, AreWorkers, IsClosed, IsThreadSeat, IsWorkerSeat}
 use Rattle.sb_shared.specs.Opening.{target_places}
 use Rattle.sb_core.specs.Runs.{IsSomeRun, finished}
 use Rattle.sb_book.specs.declared.reports.Report.{Report}
@@ -15,6 +15,7 @@ use Rattle.sb_shared.specs.Runs.{AreLooking, ClosedRunsAreRuns}
 use Rattle.sb_shared.specs.Seats.{SharedValue, ThreadSeatValue, WorkerSeatValue, fresh_thread, fresh_worker}
 use Rattle.sb_shared.specs.declared.closings.ClosedRun.{ClosedRun}
 use Rattle.sb_shared.specs.declared.views.Origin.{Origin}
+use Rattle.sb_run.specs.Crews.{AreAll}
 use Rattle.sb_run.specs.Threads.{HasEnded}
 use Rattle.sb_run.specs.Endings.{HasClosed}
 use Rattle.sb_run.specs.Openings.{worker_homes}
@@ -33,11 +34,11 @@ same_by R f g h [] (y ∷ ys) pairs = absurd pairs
 same_by R f g h (x ∷ xs) [] pairs = absurd pairs
 same_by R f g h (x ∷ xs) (y ∷ ys) pairs = let one = h x y pairs.0 in let more = same_by R f g h xs ys pairs.1 in cc
 
--- the threads' seats, by the fresh ones
+-- the places of the threads of these seats
 abbrev place_of : ThreadSeatValue → ℕ × ℕ
 place_of s = (s.target, s.thread)
 
-fresh_places : (table : TableId) (key : Origin) (places : List (ℕ × ℕ)) → map place_of (map (fresh_thread table key) places) ≡ places
+pub fresh_places : (table : TableId) (key : Origin) (places : List (ℕ × ℕ)) → map place_of (map (fresh_thread table key) places) ≡ places
 fresh_places table key [] = refl
 fresh_places table key (p ∷ ps) = ap (λ l. p ∷ l) (fresh_places table key ps)
 
@@ -45,22 +46,18 @@ pub fresh_own : (world : SharedValue) (places : List (ℕ × ℕ)) → All (IsTh
 fresh_own world [] = All-nil (IsThreadSeat world)
 fresh_own world (p ∷ ps) = All-cons (IsThreadSeat world) (fresh_thread world.table world.key p) (map (fresh_thread world.table world.key) ps) (record { table = refl; key = refl }) (fresh_own world ps)
 
-module _ (world : SharedValue) (places : List (ℕ × ℕ)) (ended : List ThreadSeatValue) (pairs : AllZip HasEnded (map (fresh_thread world.table world.key) places) ended) where
-  pub threads_own : All (IsThreadSeat world) ended
-  threads_own =
-      all_by HasEnded (IsThreadSeat world) (IsThreadSeat world) (λ x y e own. record { table = e.same.table ∙ own.table; key = e.same.key ∙ own.key })
-      (map (fresh_thread world.table world.key) places) ended pairs (fresh_own world places)
-
-  pub threads_placed : map place_of ended ≡ places
-  threads_placed =
-      same_by HasEnded place_of place_of (λ x y e. λ k. (e.same.target k, e.same.thread k)) (map (fresh_thread world.table world.key) places) ended pairs
-      ∙ fresh_places world.table world.key places
+-- the seats of all threads, once each has ended
+module _ (world : SharedValue) (first ended : List ThreadSeatValue) (own : All (IsThreadSeat world) first) (pairs : AllZip HasEnded first ended) where
+  pub threads_ended : AreAll world first → AreThreads world ended
+  threads_ended all = record {
+    each = all_by HasEnded (IsThreadSeat world) (IsThreadSeat world) (λ x y e h. record { table = e.same.table ∙ h.table; key = e.same.key ∙ h.key }) first ended pairs own;
+    places = same_by HasEnded place_of place_of (λ x y e. λ k. (e.same.target k, e.same.thread k)) first ended pairs ∙ all;
+  }
 
   pub threads_finished : AreFinished world.key ended
   threads_finished =
       all_by HasEnded (IsThreadSeat world) (λ (s : ThreadSeatValue). is_finished world.key.script.value s.run.thread ≡ true)
-      (λ x y e own. subst (λ (key : Origin). is_finished key.script.value y.run.thread ≡ true) (e.same.key ∙ own.key) e.finished)
-      (map (fresh_thread world.table world.key) places) ended pairs (fresh_own world places)
+      (λ x y e h. subst (λ (key : Origin). is_finished key.script.value y.run.thread ≡ true) (e.same.key ∙ h.key) e.finished) first ended pairs own
 
 -- the workers' seats, by their homes
 workers_own : (world : SharedValue) (ts : List ℕ) (seats : List WorkerSeatValue) → map home_of seats ≡ map home_of (map (fresh_worker world.table world.key) ts) → All IsWork seats → All (IsWorkerSeat world) seats

@@ -1,5 +1,5 @@
 -- A run from its start to its end, and one of a script without targets.
-use Rattle.std.proofs.Common.{◌≡◌, refl, sym, subst, ap, ◌∙◌, ℕ, zero, suc, ◌<◌, List, [], length, map, None, arith}
+use Rattle.std.proofs.Common.{◌≡◌, refl, sym, subst, ap, ◌∙◌, ℕ, zero, suc, ◌<◌, List, [], length, None, arith}
 use Rattle.std.specs.List.{All, AllZip}
 use Rattle.sb_book.specs.Histories.{setting_of}
 use Rattle.sb_book.specs.Readiness.{IsReady}
@@ -10,16 +10,17 @@ use Rattle.sb_rule.specs.declared.policies.Policy.{Policy}
 use Rattle.sb_shared.specs.Closing.{IsKeeper, IsThreadSeat}
 use Rattle.sb_shared.specs.Opening.{thread_places}
 use Rattle.sb_shared.specs.Origins.{setting_in}
-use Rattle.sb_shared.specs.Seats.{KeeperValue, ThreadSeatValue, fresh_thread}
+use Rattle.sb_shared.specs.Seats.{KeeperValue, ThreadSeatValue}
 use Rattle.sb_statements.specs.declared.schedules.Schedule.{Schedule}
 use Rattle.sb_statements.specs.declared.scripts.Script.{Script}
 use Rattle.sb_run.specs.Contexts.{ContextAt, IsContext}
 use Rattle.sb_run.specs.Servers.{IsSameServer, IsServer, ServerAt}
+use Rattle.sb_run.specs.Crews.{AreAll}
 use Rattle.sb_run.specs.Threads.{HasEnded}
 use Rattle.sb_run.specs.Endings.{CanEnd}
 use Rattle.sb_run.specs.Openings.{IsOpened, OpenedAt, worker_homes}
 use Rattle.sb_run.proofs.Crewed.{pairs_length, still_seats}
-use Rattle.sb_run.proofs.Ended.{fresh_own, threads_finished, threads_own, threads_placed}
+use Rattle.sb_run.proofs.Ended.{fresh_own, fresh_places, threads_ended, threads_finished}
 use Rattle.sb_run.proofs.Opened.{servers_ready}
 
 -- what the threads of a run share
@@ -39,6 +40,9 @@ module _ (policies : List Policy) (script : Script) (judges : List Policy) (x : 
   pub threads_ready : All (IsThreadSeat x.world) x.threads
   threads_ready = subst (All (IsThreadSeat x.world)) (sym is.its_threads) (fresh_own x.world (thread_places x.world.key.script.value.targets))
 
+  pub threads_all : AreAll x.world x.threads
+  threads_all = subst (AreAll x.world) (sym is.its_threads) (fresh_places x.world.table x.world.key (thread_places x.world.key.script.value.targets))
+
   pub all_servers_ready : All (IsServer (context_of script judges x)) x.servers
   all_servers_ready = servers_ready (context_of script judges x) (worker_homes x.world) x.servers x.last refl is.seats
 
@@ -51,20 +55,14 @@ module _ (policies : List Policy) (script : Script) (judges : List Policy) (x : 
 
   module _ (finished : List ThreadSeatValue) (back : List ServerAt) (keeper : KeeperValue) (all : AllZip HasEnded x.threads finished) (served : AllZip IsSameServer x.servers back)
       (kept : IsKeeper x.world keeper) where
-    pairs : AllZip HasEnded (map (fresh_thread x.world.table x.world.key) (thread_places x.world.key.script.value.targets)) finished
-    pairs = subst (λ (ts : List ThreadSeatValue). AllZip HasEnded ts finished) is.its_threads all
-
     some_back : 0 < length back
     some_back = let e : length back ≡ length x.servers = pairs_length IsSameServer x.servers back served in let l : 0 < length x.servers = is.some in omega (arith, e, l)
 
     pub can_end : CanEnd (record { world = x.world; keeper = keeper; threads = finished; pool = x.pool; servers = back; last = x.last })
     can_end = record {
       its_keeper = kept;
-      its_threads = record {
-        each = threads_own x.world (thread_places x.world.key.script.value.targets) finished pairs;
-        places = threads_placed x.world (thread_places x.world.key.script.value.targets) finished pairs;
-      };
-      finished = threads_finished x.world (thread_places x.world.key.script.value.targets) finished pairs;
+      its_threads = threads_ended x.world x.threads finished threads_ready all threads_all;
+      finished = threads_finished x.world x.threads finished threads_ready all;
       some = some_back;
       seats = still_seats x.pool (worker_homes x.world) x.servers back x.last is.seats served;
     }

@@ -1,9 +1,10 @@
 -- The threads of a run, as the one that starts them has them.
-use Rattle.std.specs.Prelude.{◌≡◌, ◌<◌, ⊤, List}
+use Rattle.std.specs.Prelude.{◌≡◌, ◌<◌, ⊤, List, map}
 use Rattle.std.specs.List.{All, AllZip}
 use Rattle.sb_shared.specs.Closing.{IsKeeper, IsThreadSeat}
 use Rattle.sb_shared.specs.Events.{stop_in}
-use Rattle.sb_shared.specs.Seats.{IsSameThread, KeeperValue, ThreadSeatValue}
+use Rattle.sb_shared.specs.Opening.{thread_places}
+use Rattle.sb_shared.specs.Seats.{IsSameThread, KeeperValue, SharedValue, ThreadSeatValue}
 use Rattle.sb_run.specs.Contexts.{ContextAt, IsContext}
 use Rattle.sb_run.specs.Servers.{IsSameServer, IsServer, ServerAt}
 use Rattle.sb_run.specs.Threads.{HasEnded}
@@ -23,10 +24,15 @@ IsServerHostOf x (server.Thread h) = h.promise.server.value ≡ x
 IsServerHostOf x (server.Caller y) = IsSameServer x y
 IsServerHostOf x server.Stopped = ⊤
 
+-- these seats are those of all threads of the script, by target and then by number
+abbrev pub AreAll : SharedValue → List ThreadSeatValue → Type 0
+AreAll world seats = map (λ s. (s.target, s.thread)) seats ≡ thread_places world.key.script.value.targets
+
 -- a run can begin
 pub record CanRun (x : ContextAt) (threads : List ThreadSeatValue) (servers : List ServerAt) (keeper : KeeperValue) : Type 0 where
   pub context : IsContext x
   pub its_threads : All (IsThreadSeat x.world) threads
+  pub all : AreAll x.world threads
   pub its_servers : All (IsServer x) servers
   pub its_keeper : IsKeeper x.world keeper
 

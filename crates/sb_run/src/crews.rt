@@ -1,7 +1,7 @@
 // The threads of a run: they are started, the caller has what could not be started, and all are joined.
 ghost use Rattle.std.specs.Prelude.{◌≡◌, ◌<◌, IfOk, OnErr, OnOk, map};
 ghost use Rattle.std.specs.List.{All, AllZip};
-ghost use Rattle.sb_run.specs.Crews.{CanRun, HasRun};
+ghost use Rattle.sb_run.specs.Crews.{AreAll, CanRun, HasRun};
 ghost use Rattle.sb_shared.specs.Closing.{IsKeeper, IsThreadSeat};
 ghost use Rattle.sb_shared.specs.Events.{stop_in};
 ghost use Rattle.sb_shared.specs.Seats.{IsStop};
@@ -17,6 +17,7 @@ use crate::groups::{
     step_each,
 };
 use crate::started::{StartedServer, StartedThread};
+use crate::watches::Watch;
 use crate::works::Server;
 use crossbeam_utils::CachePadded;
 use sb_base::NoMemory;
@@ -38,14 +39,14 @@ fn look_after<J: Judge, G: Gate, R: Wait>(
     running: &AtomicU64,
     threads: &mut Vec<StartedThread>,
     servers: &mut Vec<StartedServer>,
-    keeper: &mut Keeper,
+    watch: &mut Watch,
 ) -> Result<(), NoMemory>
     requires threads { All (IsThreadSeat context.now.world) (map (λ s. s.first) threads.old.items) }
     requires servers { All (IsServer context.now) (map (λ s. s.first) servers.old.items) }
-    requires keeper { IsKeeper context.now.world keeper.old }
+    requires keeper { IsKeeper context.now.world watch.old }
     ensures threads { map (λ s. s.first) threads.new.items ≡ map (λ s. s.first) threads.old.items }
     ensures servers { map (λ s. s.first) servers.new.items ≡ map (λ s. s.first) servers.old.items }
-    ensures keeper { IsKeeper context.now.world keeper.new }
+    ensures keeper { IsKeeper context.now.world watch.new }
     ensures done { OnOk result (All IsDone threads.new.items) }
 {
     context.establish_kept();
@@ -56,7 +57,7 @@ fn look_after<J: Judge, G: Gate, R: Wait>(
             break;
         }
         serve_with_each(rt, alloc, context, servers)?;
-        if keeper.stopped(context.world).is_some() {
+        if watch.stopped(context.world).is_some() {
             return Err(NoMemory);
         }
     }
@@ -69,17 +70,19 @@ fn stop_at_end<R: Threads>(
     alloc: Global,
     world: &SharedWorld,
     threads: Vec<StartedThread>,
-    keeper: &mut Keeper,
+    watch: &mut Watch,
 ) -> Result<Vec<ThreadSeat>, NoMemory>
-    requires threads { All IsDone threads.items }
-    requires keeper { IsKeeper world.now keeper.old }
+    requires own { All (IsThreadSeat world.now) (map (λ s. s.first) threads.items) }
+    requires all { AreAll world.now (map (λ s. s.first) threads.items) }
+    requires done { All IsDone threads.items }
+    requires keeper { IsKeeper world.now watch.old }
     ensures ended { IfOk result (λ ended. AllZip HasEnded (map (λ s. s.first) threads.items) ended.items) }
-    ensures keeper { IsKeeper world.now keeper.new }
-    ensures stopped { OnOk result (IsStop keeper.old.parts keeper.old.history Finished keeper.new.history) }
-    ensures running { OnErr result (keeper.new ≡ keeper.old) }
+    ensures keeper { IsKeeper world.now watch.new }
+    ensures stopped { OnOk result (IsStop watch.old.parts watch.old.history Finished watch.new.history) }
+    ensures running { OnErr result (watch.new ≡ watch.old) }
 {
     let ended = join_threads(rt, alloc, threads)?;
-    keeper.stop(world);
+    watch.stop(world, ended.as_slice());
     Ok(ended)
 }
 
@@ -94,15 +97,16 @@ fn work<'s, 'e, J: Judge, G: Gate, R: Threads + Wait + Sync>(
     running: &'e AtomicU64,
     threads: Vec<ThreadSeat>,
     servers: Vec<Server>,
-    keeper: &mut Keeper,
+    watch: &mut Watch,
 ) -> Result<(Vec<ThreadSeat>, Vec<Server>), NoMemory>
     requires threads { All (IsThreadSeat context.now.world) threads.items }
+    requires all { AreAll context.now.world threads.items }
     requires servers { All (IsServer context.now) servers.items }
-    requires keeper { IsKeeper context.now.world keeper.old }
+    requires keeper { IsKeeper context.now.world watch.old }
     ensures ended { IfOk result (λ r. AllZip HasEnded threads.items r.0.items) }
     ensures served { IfOk result (λ r. AllZip IsSameServer servers.items r.1.items) }
-    ensures keeper { IsKeeper context.now.world keeper.new }
-    ensures stopped { OnOk result (0 < stop_in keeper.new.history) }
+    ensures keeper { IsKeeper context.now.world watch.new }
+    ensures stopped { OnOk result (0 < stop_in watch.new.history) }
 {
     context.establish_kept();
     let (world, script, count) = (context.world, context.script, threads.len());
@@ -115,9 +119,9 @@ fn work<'s, 'e, J: Judge, G: Gate, R: Threads + Wait + Sync>(
         running,
         &mut threads,
         &mut servers,
-        keeper,
+        watch,
     )?;
-    let ended = stop_at_end(rt, alloc, world, threads, keeper)?;
+    let ended = stop_at_end(rt, alloc, world, threads, watch)?;
     let back = join_servers(rt, alloc, servers)?;
     Ok((ended, back))
 }
@@ -132,17 +136,17 @@ fn work_or_fail<'s, 'e, J: Judge, G: Gate, R: Threads + Wait + Sync>(
     running: &'e AtomicU64,
     threads: Vec<ThreadSeat>,
     servers: Vec<Server>,
-    keeper: &mut Keeper,
+    watch: &mut Watch,
 ) -> Result<(Vec<ThreadSeat>, Vec<Server>), NoMemory>
-    requires { CanRun context.now threads.items servers.items keeper.old }
-    ensures ran { IfOk result (λ r. HasRun context.now threads.items servers.items r.0.items r.1.items keeper.new) }
-    ensures failed { OnErr result (stop_in keeper.new.history ≡ 2) }
+    requires { CanRun context.now threads.items servers.items watch.old }
+    ensures ran { IfOk result (λ r. HasRun context.now threads.items servers.items r.0.items r.1.items watch.new) }
+    ensures failed { OnErr result (stop_in watch.new.history ≡ 2) }
 {
     let worked = work(
-        scope, rt, alloc, context, flags, running, threads, servers, keeper,
+        scope, rt, alloc, context, flags, running, threads, servers, watch,
     );
     if worked.is_err() {
-        keeper.fail(context.world);
+        watch.fail(context.world);
     }
     worked
 }
@@ -162,6 +166,7 @@ pub(crate) fn run_crew<J: Judge, G: Gate, R: Threads + Wait + Sync>(
     keeper: Keeper,
 ) -> Result<(Vec<ThreadSeat>, Vec<Server>, Keeper), NoMemory>
     requires threads { All (IsThreadSeat context.now.world) threads.items }
+    requires all { AreAll context.now.world threads.items }
     requires servers { All (IsServer context.now) servers.items }
     requires keeper { IsKeeper context.now.world keeper }
     ensures ended { IfOk result (λ r. AllZip HasEnded threads.items r.0.items) }
@@ -192,19 +197,11 @@ pub(crate) fn run_crew<J: Judge, G: Gate, R: Threads + Wait + Sync>(
                 pool,
                 serving,
             };
-            let mut keeper = keeper;
+            let mut watch = Watch::new(keeper);
             let (ended, back) = work_or_fail(
-                scope,
-                rt,
-                alloc,
-                &context,
-                all_flags,
-                count,
-                threads,
-                servers,
-                &mut keeper,
+                scope, rt, alloc, &context, all_flags, count, threads, servers, &mut watch,
             )?;
-            Ok((ended, back, keeper))
+            Ok((ended, back, watch.into_keeper()))
         },
     )
 }

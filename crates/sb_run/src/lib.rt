@@ -18,6 +18,7 @@ mod spawning;
 mod started;
 mod threads;
 mod visits;
+mod watches;
 mod works;
 
 pub use runs::run_threads;

@@ -3,7 +3,7 @@ use Rattle.std.proofs.lemmas.Result.{IfOk-weaker}
 use Rattle.sb_shared.specs.Closing.{IsKeeper, IsThreadSeat}
 use Rattle.sb_run.specs.Contexts.{ContextAt}
 use Rattle.sb_run.specs.Servers.{IsServer}
-use Rattle.sb_run.specs.Crews.{CanRun}
+use Rattle.sb_run.specs.Crews.{AreAll, CanRun}
 use Rattle.sb_run.proofs.crews.run_crew.Goals as goal
 
 pub scoped-requires : goal.scoped-requires
@@ -14,6 +14,7 @@ scoped-requires g c =
     record {
       context = c.context.invariant;
       its_threads = subst (λ (z : ContextAt). All (IsThreadSeat z.world) c.args.threads.items) (sym is) c.requires.threads;
+      all = subst (λ (z : ContextAt). AreAll z.world c.args.threads.items) (sym is) c.requires.all;
       its_servers = subst (λ (z : ContextAt). All (IsServer z) c.args.servers.items) (sym is) c.requires.servers;
       its_keeper = subst (λ (z : ContextAt). IsKeeper z.world c.args.keeper) (sym is) c.requires.keeper;
     } in

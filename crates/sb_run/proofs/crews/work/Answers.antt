@@ -4,5 +4,5 @@ use Rattle.sb_run.proofs.crews.work.Goals as goal
 
 pub returns-clause-stopped : goal.returns-clause-stopped
 returns-clause-stopped g c =
-    let keeper = c.look_after.new.keeper in
-    set_stop keeper.parts keeper.history Finished c.stop_at_end.new.keeper.history c.in_ok-ended.ensures.stopped
+    let watch = c.look_after.new.watch in
+    set_stop watch.parts watch.history Finished c.stop_at_end.new.watch.history c.in_ok-ended.ensures.stopped

@@ -5,5 +5,5 @@ use Rattle.sb_run.proofs.crews.work_or_fail.Goals as goal
 
 pub returns-then-is_err-clause-failed : goal.returns-then-is_err-clause-failed
 returns-then-is_err-clause-failed g c =
-    let keeper = c.work-worked.new.keeper in
-    after_error c.work-worked.result (stop_in c.fail.new.self.history ≡ 2) (out_of_memory keeper.parts keeper.history c.fail.new.self.history c.fail.ensures.stopped)
+    let watch = c.work-worked.new.watch in
+    after_error c.work-worked.result (stop_in c.fail.new.self.history ≡ 2) (out_of_memory watch.parts watch.history c.fail.new.self.history c.fail.ensures.stopped)

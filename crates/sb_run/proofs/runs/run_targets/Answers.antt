@@ -5,7 +5,7 @@ use Rattle.sb_core.specs.Runs.{IsSomeRun}
 use Rattle.sb_rule.specs.declared.policies.Policy.{Policy}
 use Rattle.sb_statements.specs.declared.scripts.Script.{Script}
 use Rattle.sb_run.specs.Openings.{IsOpened, OpenedAt}
-use Rattle.sb_run.proofs.Running.{all_servers_ready, can_end, is_context, judges_are, keeper_ready, threads_ready}
+use Rattle.sb_run.proofs.Running.{all_servers_ready, can_end, is_context, judges_are, keeper_ready, threads_all, threads_ready}
 use Rattle.sb_run.proofs.runs.run_targets.Goals as goal
 
 pub invariant_of-context : goal.invariant_of-context
@@ -21,6 +21,13 @@ run_crew-requires-clause-threads g c κs within =
     let x : OpenedAt = record { world = s.world; keeper = s.keeper; threads = s.threads.items; pool = s.pool; servers = s.servers.items; last = s.last } in
     let is = subst (λ (z : Script). IsOpened c.args.start.policies z x) (sym c.script_of-script.ensures.same) (subst (IsOpened c.args.start.policies c.args.start.script) (sym c.opened.view_is) c.in_ok-opened.ensures) in
     threads_ready c.args.start.policies c.script_of-script.result.now (g.J.Judge.policies c.args.judge.now) x is
+
+pub run_crew-requires-clause-all : goal.run_crew-requires-clause-all
+run_crew-requires-clause-all g c κs within =
+    let s = c.opened.inside in
+    let x : OpenedAt = record { world = s.world; keeper = s.keeper; threads = s.threads.items; pool = s.pool; servers = s.servers.items; last = s.last } in
+    let is = subst (λ (z : Script). IsOpened c.args.start.policies z x) (sym c.script_of-script.ensures.same) (subst (IsOpened c.args.start.policies c.args.start.script) (sym c.opened.view_is) c.in_ok-opened.ensures) in
+    threads_all c.args.start.policies c.script_of-script.result.now (g.J.Judge.policies c.args.judge.now) x is
 
 pub run_crew-requires-clause-servers : goal.run_crew-requires-clause-servers
 run_crew-requires-clause-servers g c κs within =
