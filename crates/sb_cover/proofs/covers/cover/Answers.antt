@@ -1,0 +1,31 @@
+use Rattle.std.specs.List.{list_all}
+use Rattle.std.specs.Prelude.{IfSome}
+use Rattle.std.proofs.Common.{◌≡◌, ◌∙◌, [], true, ap, subst, sym}
+use Rattle.sb_call.specs.Arguments.{fit}
+use Rattle.sb_cover.specs.Calls.{AreCalls, AreLeft}
+use Rattle.sb_cover.specs.Opening.{AllOpened, AllUnread}
+use Rattle.sb_cover.specs.Pruning.{is_true, IsLabel}
+use Rattle.sb_cover.proofs.CoverLemmas.{calls_cover}
+use Rattle.sb_cover.proofs.covers.cover.Goals as goal
+
+pub returns-clause-all : goal.returns-clause-all
+returns-clause-all c =
+    let table = c.in-Some-2.table in
+    let conds = table.conds.items in
+    let tag = c.args.tag in
+    let questions = c.args.questions.now in
+    let unread = c.in-Some.unread in
+    let label = c.in_ok-label.label in
+    let left = c.in_ok-left.left in
+    let kinds = c.shape.result.now in
+    let same : conds ≡ c.open_questions.new.conds.items = subst (λ o. IfSome o (λ t. t.conds.items ≡ c.open_questions.new.conds.items)) c.in-Some-2.is c.in_ok-table.ensures in
+    let opened : AllOpened conds tag questions unread =
+    subst (λ l. AllOpened l tag questions unread) (sym same) (subst (λ o. IfSome o (AllOpened c.open_questions.new.conds.items tag questions)) c.in-Some.is c.in_ok-unread.ensures.rules) in
+    let are : AllUnread unread = subst (λ o. IfSome o AllUnread) c.in-Some.is c.in_ok-unread.ensures.unread in
+    let is : IsLabel (is_true []) unread label = subst (λ l. IsLabel (is_true []) l label) c.deref.ensures c.in_ok-label.ensures in
+    let is_left : AreLeft unread label left =
+    subst (λ l. AreLeft unread l left) c.numbers.ensures (subst (λ l. AreLeft l c.numbers.result.now left) c.deref-3.ensures c.in_ok-left.ensures.left) in
+    let calls : AreCalls conds 0 kinds left c.in-Some-3.calls.items =
+    subst (λ q. AreCalls conds 0 kinds q c.in-Some-3.calls.items) c.deref-4.ensures
+    (subst (λ o. IfSome o (λ calls. AreCalls conds 0 kinds c.deref-4.result.now calls.items)) c.in-Some-3.is c.in_ok-calls.ensures.all) in
+    calls_cover conds tag kinds questions unread left label c.in-Some-3.calls.items c.shape.ensures opened are is is_left calls

@@ -1,0 +1,8 @@
+use Rattle.std.proofs.Common.{◌≡◌, ℕ, List, false, take}
+use Rattle.sb_cover.specs.Positions.{tells}
+use Rattle.sb_cover.specs.Pruning.{is_needed}
+use Rattle.sb_rule.specs.declared.cells.Cell.{Cell}
+use Rattle.sb_cover.proofs.signs.live_patterns.Given as goal
+
+abbrev pub invariant-loop-position : goal.invariant-loop-position
+invariant-loop-position l = (patterns : List (List Cell)) (n : ℕ) (later : List ℕ) → is_needed l.live.items n ≡ false → tells patterns (take l.position-index l.positions) n later ≡ false

@@ -1,0 +1,15 @@
+pub mod AskedConds
+pub mod Bits
+pub mod Calls
+pub mod Choices
+pub mod Comparing
+pub mod Covers
+pub mod Lefts
+pub mod Lengths
+pub mod Letters
+pub mod Modes
+pub mod Opening
+pub mod Positions
+pub mod Pruning
+pub mod Shown
+pub mod TextMachines

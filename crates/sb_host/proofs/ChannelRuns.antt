@@ -1,0 +1,55 @@
+-- Runs on the channels of one target.
+use Rattle.std.specs.Prelude.{nat_lt, slice_index, slice_set}
+use Rattle.std.proofs.Common.{◌≡◌, ◌∙◌, ℕ, zero, suc, ◌+◌, ◌*◌, ◌<◌, ◌≤◌, Bool, true, false, cond, ◌==◌, ◌&&◌, List, [], ◌∷◌, ◌++◌, length, map, replicate, take, get_or, None, Some, refl, sym, ap, subst, arith}
+use Rattle.std.proofs.lemmas.Bool.{false≢true}
+use Rattle.std.proofs.lemmas.Bool.Decides.{nat_tests}
+use Rattle.std.proofs.lemmas.List.{length-replicate, take_all, take_more}
+use mathlib.Core.Option.{Option, none, some, some-injective}
+use lib.ListN.{get_elem?}
+use Rattle.sb_actor.specs.Following.{act_word, act_wrote}
+use Rattle.sb_actor.specs.Laws.{Starts, ThreadKeeps, WorkerKeeps, words_after}
+use Rattle.sb_actor.specs.Moves.{Deed, IsBlock, ThreadMay, at, is_clean, met, no_call, take_it, fill, send, wait, fetch, free, abandon, thread_place, thread_view, worker_view, wrote}
+use Rattle.sb_actor.specs.Rule.{Mid, idle, filling, ready, acked, Rule, as_served, calls_of, place, served_at, waiting}
+use Rattle.sb_actor.specs.Views.{Had, ThreadPlace, ThreadView, WorkerView, Fetch, Fill, Try, Wait}
+use Rattle.sb_host.specs.ChannelLaws.{AreNew, CallsHaveTheirReplies, Channels, ChannelStep, IsRun, IsStep, OfCaller, OfWorker, all_clean}
+
+-- the rule holds of the words and the views
+abbrev Holds : List Bool → Channels → Type 0
+Holds clean s = Rule clean s.words s.worker s.callers
+
+module _ (worker_keeps : WorkerKeeps) (thread_keeps : ThreadKeeps) where
+  one : (clean : List Bool) (s : Channels) (step : ChannelStep) (next : Channels) → Holds clean s → IsStep s step next → Holds clean next
+  one clean s (OfWorker w d) next rule is = subst (λ x. Holds clean x) (sym is.1) (worker_keeps clean s.words s.worker s.callers w d rule is.0)
+  one clean s (OfCaller i w d) next rule is =
+      subst (λ x. Holds clean x) (sym is.3) (thread_keeps clean s.words s.worker s.callers i w is.0 d rule is.1 is.2)
+
+  all : (clean : List Bool) (steps : List ChannelStep) (s end : Channels) → Holds clean s → IsRun s steps end → Holds clean end
+  all clean [] s end rule run = subst (λ x. Holds clean x) (sym run) rule
+  all clean (step ∷ steps) s end rule run = all clean steps run.0 end (one clean s step run.0 rule run.1) run.2
+
+-- at most one call is served and not yet ended
+few_at : (c : ℕ) (m : Mid) → length (served_at c m) ≤ 1
+few_at c idle = omega arith
+few_at c (filling k words) = omega arith
+few_at c (ready k block) = omega arith
+few_at c (acked k block reply) = omega arith
+
+few : (clean : List Bool) (mids : ℕ → Mid) (o : Option ℕ) → length (waiting clean mids o) ≤ 1
+few clean mids none = omega arith
+few clean mids (some c) = by (is_clean clean c) (served_at c (mids c)) (few_at c (mids c))
+  where
+    by : (b : Bool) (l : List Had) → length l ≤ 1 → length (cond b l []) ≤ 1
+    by true l h = h
+    by false l h = omega arith
+
+pub have_replies : Starts → WorkerKeeps → ThreadKeeps → CallsHaveTheirReplies
+have_replies starts worker_keeps thread_keeps channels s end steps new run i v listed =
+    let clean = all_clean channels in
+    let rule : Holds clean s = subst (λ (w : WorkerView). Rule clean s.words w s.callers) (sym new.worker) (starts clean s.words s.callers new.size new.opened new.callers) in
+    let after = all worker_keeps thread_keeps clean steps s end rule run in
+    let fits = after.fits i v listed in
+    let late = waiting clean after.mids (place v.place) in (
+      late,
+      few clean after.mids (place v.place),
+      subst (λ k. calls_of clean k end.worker.served ≡ map as_served (v.had ++ late)) fits.number fits.calls,
+    )

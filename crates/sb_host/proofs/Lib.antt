@@ -1,0 +1,9 @@
+pub mod Standing
+pub mod AnswerLemmas
+pub mod Fitting
+pub mod LiteralTexts
+pub mod HostTruth
+pub mod CallSteps
+pub mod CallRanges
+pub mod ChannelRuns
+pub mod CallerSteps

@@ -1,0 +1,6 @@
+pub mod Replies
+pub mod HostWorkers
+pub mod Calls
+pub mod Literals
+pub mod HostLaws
+pub mod ChannelLaws

@@ -1,0 +1,77 @@
+// Policies of rows, with their programs.
+
+use sb_call::CallTag;
+use sb_host::PolicySet;
+use sb_rows::{RowFault, call, put_word};
+use sb_rule::{Judge, Verdict};
+use sb_ruletext::{TextRefused, read_policies};
+use std::alloc::Global;
+
+// As many bytes as the sandbox reads of a policy.
+const MOST_BYTES: usize = 4_194_304;
+
+/// The policies `web`, with these rules, separated by semicolons, the first of which is on line 3, and `none`, with no rule.
+pub fn set_of(alloc: Global, rules: &str) -> Result<PolicySet, RowFault> {
+    let mut text = String::from_str(alloc, "sandbox-policy 2\npolicy web\n")?;
+    for rule in rules.split(';') {
+        write!(text, "{rule}\n")?;
+    }
+    text.push_str("policy none\n")?;
+    if text.len() > MOST_BYTES {
+        return Err(RowFault::TooMany);
+    }
+    match read_policies(alloc, text.as_str().as_bytes()) {
+        Ok(policies) => Ok(PolicySet::new(alloc, policies)?),
+        Err(TextRefused::Fault(_)) => Err(RowFault::BadPolicy),
+        Err(TextRefused::NoMemory) => Err(RowFault::NoMemory),
+    }
+}
+
+// The number of the policy of this name, and how many rules it has.
+fn told_policy(alloc: Global, set: &PolicySet, name: &str) -> Result<String, RowFault> {
+    let count = set.len();
+    let Some(number) = set.find(name.as_bytes()) else {
+        return Ok(format!(in alloc; "none of {count}")?);
+    };
+    let rules = match set.policy(number) {
+        Some(policy) => policy.rules.as_slice().len(),
+        None => 0,
+    };
+    Ok(format!(in alloc; "policy {number} of {count}, rules {rules}")?)
+}
+
+/// The policy of this name.
+pub fn found(alloc: Global, rules: &str, name: &str) -> Result<String, RowFault> {
+    told_policy(alloc, &set_of(alloc, rules)?, name)
+}
+
+/// The policy of this name among none.
+pub fn found_in_none(alloc: Global, name: &str) -> Result<String, RowFault> {
+    told_policy(alloc, &PolicySet::empty(alloc), name)
+}
+
+/// The verdicts of both policies on a call.
+pub fn judged(alloc: Global, rules: &str, text: &str) -> Result<String, RowFault> {
+    let set = set_of(alloc, rules)?;
+    let (tag, args) = call(alloc, text)?;
+    if set.len() < 2 || !sb_call::fits(tag, args.as_slice()) {
+        return Err(RowFault::NotInRange);
+    }
+    let mut out = String::new(alloc);
+    put_verdict(&mut out, tag, set.judge(0, tag, args.as_slice()))?;
+    out.push_str("; ")?;
+    put_verdict(&mut out, tag, set.judge(1, tag, args.as_slice()))?;
+    Ok(out)
+}
+
+/// Appends a verdict on a call of this name.
+pub fn put_verdict(out: &mut String, tag: CallTag, verdict: Verdict) -> Result<(), RowFault> {
+    put_word(out, sb_call::call_word(tag))?;
+    match verdict {
+        Verdict::Rule { line, action } => {
+            write!(out, " rule {line} ")?;
+            put_word(out, action.word())
+        }
+        Verdict::NoRule => Ok(out.push_str(" no rule")?),
+    }
+}
