@@ -1,7 +1,7 @@
 -- The answer of a worker.
 use Rattle.std.specs.Prelude.{is_some}
 use Rattle.std.proofs.Common.{◌≡◌, ◌∙◌, ℕ, true, false, Option, None, Some, refl, sym, ap}
-use Rattle.std.proofs.lemmas.Bool.{false≢true, true≢false}
+use Rattle.std.proofs.lemmas.Bool.{false≢true}
 use Rattle.sb_call.specs.declared.replies.Answer.{Answer as HostAnswer}
 use Rattle.sb_block.specs.Copies.{Copied, mark_of}
 use Rattle.sb_book.specs.declared.decisions.Decision.{Decision}
@@ -9,7 +9,6 @@ use Rattle.sb_book.specs.declared.decisions.Decision.TheVariants.{Refused, Denie
 use Rattle.sb_actor.specs.Observations.{Observation, Answered}
 use Rattle.sb_actor.specs.WorkerStages.{WorkerAt, WorkerStage, Look, Count, End, Copy, Take, Answer, Give, Reply, Ack}
 use Rattle.sb_actor.specs.WorkerTable.{worker_plan, IsAnswer, taken_in}
-use Rattle.sb_actor.specs.declared.acts.Act.{Act}
 use Rattle.sb_actor.specs.declared.acts.Act.TheVariants as act
 use Rattle.sb_host.specs.Replies.{host_reply}
 use Rattle.sb_host.specs.HostWorkers.{is_answer, copy_at}

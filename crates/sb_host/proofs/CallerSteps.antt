@@ -1,6 +1,6 @@
 -- The steps of a call that waits for ever are ones that a caller may make.
 use Rattle.std.specs.Prelude.{nat_lt, slice_index, unwrap_or, is_some}
-use Rattle.std.proofs.Common.{◌≡◌, ◌∙◌, ℕ, ◌+◌, ◌<◌, ◌≤◌, Bool, true, false, ◌==◌, ◌&&◌, List, [], ◌∷◌, ◌++◌, length, replicate, take, get_or, Option, None, Some, refl, sym, ap, subst, arith}
+use Rattle.std.proofs.Common.{◌≡◌, ◌∙◌, ℕ, ◌+◌, ◌<◌, Bool, true, false, ◌==◌, ◌&&◌, List, [], ◌∷◌, ◌++◌, length, take, Option, Some, refl, sym, ap, subst, arith}
 use Rattle.std.proofs.lemmas.Bool.{false≢true}
 use Rattle.std.proofs.lemmas.Bool.Decides.{nat_tests}
 use Rattle.std.proofs.lemmas.List.{length-replicate, length-take-le, take_all, take_more}
@@ -14,7 +14,7 @@ use Rattle.sb_actor.specs.Views.{Had, ThreadView}
 use Rattle.sb_actor.specs.Views as view
 use Rattle.sb_statements.specs.declared.results.CallResult.{CallResult}
 use Rattle.sb_host.specs.Calls.{CallAt, call_after}
-use Rattle.sb_host.specs.ChannelLaws.{CallGoes, CallsGoAsCallers, ShowsCall, WaitsForEver, all_clean, is_giving_up}
+use Rattle.sb_host.specs.ChannelLaws.{CallGoes, CallsGoAsCallers, all_clean, is_giving_up}
 
 -- a view and a call of their parts
 abbrev shown : ℕ → ℕ → List Had → List ℕ → ThreadStage → ThreadView

@@ -1,17 +1,11 @@
 -- Runs on the channels of one target.
-use Rattle.std.specs.Prelude.{nat_lt, slice_index, slice_set}
-use Rattle.std.proofs.Common.{◌≡◌, ◌∙◌, ℕ, zero, suc, ◌+◌, ◌*◌, ◌<◌, ◌≤◌, Bool, true, false, cond, ◌==◌, ◌&&◌, List, [], ◌∷◌, ◌++◌, length, map, replicate, take, get_or, None, Some, refl, sym, ap, subst, arith}
-use Rattle.std.proofs.lemmas.Bool.{false≢true}
-use Rattle.std.proofs.lemmas.Bool.Decides.{nat_tests}
-use Rattle.std.proofs.lemmas.List.{length-replicate, take_all, take_more}
-use mathlib.Core.Option.{Option, none, some, some-injective}
-use lib.ListN.{get_elem?}
-use Rattle.sb_actor.specs.Following.{act_word, act_wrote}
-use Rattle.sb_actor.specs.Laws.{Starts, ThreadKeeps, WorkerKeeps, words_after}
-use Rattle.sb_actor.specs.Moves.{Deed, IsBlock, ThreadMay, at, is_clean, met, no_call, take_it, fill, send, wait, fetch, free, abandon, thread_place, thread_view, worker_view, wrote}
+use Rattle.std.proofs.Common.{◌≡◌, ℕ, ◌+◌, ◌≤◌, Bool, true, false, cond, List, [], ◌∷◌, ◌++◌, length, map, sym, subst, arith}
+use mathlib.Core.Option.{Option, none, some}
+use Rattle.sb_actor.specs.Laws.{Starts, ThreadKeeps, WorkerKeeps}
+use Rattle.sb_actor.specs.Moves.{is_clean}
 use Rattle.sb_actor.specs.Rule.{Mid, idle, filling, ready, acked, Rule, as_served, calls_of, place, served_at, waiting}
-use Rattle.sb_actor.specs.Views.{Had, ThreadPlace, ThreadView, WorkerView, Fetch, Fill, Try, Wait}
-use Rattle.sb_host.specs.ChannelLaws.{AreNew, CallsHaveTheirReplies, Channels, ChannelStep, IsRun, IsStep, OfCaller, OfWorker, all_clean}
+use Rattle.sb_actor.specs.Views.{Had, WorkerView}
+use Rattle.sb_host.specs.ChannelLaws.{CallsHaveTheirReplies, Channels, ChannelStep, IsRun, IsStep, OfCaller, OfWorker, all_clean}
 
 -- the rule holds of the words and the views
 abbrev Holds : List Bool → Channels → Type 0

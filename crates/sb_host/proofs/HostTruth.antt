@@ -14,7 +14,7 @@ use Rattle.sb_book.specs.declared.decisions.Decision.TheVariants.{Refused, Denie
 use Rattle.sb_actor.specs.Acts.{ready, turn_in, value_in}
 use Rattle.sb_actor.specs.Observations.{Observation}
 use Rattle.sb_actor.specs.WorkerStages.{WorkerAt, WorkerStage, Look, Count, End, Copy, Take, Answer, Give, Reply, Ack}
-use Rattle.sb_host.specs.HostWorkers.{HostAt, after_answer_to, after_performing_on, copy_to_answer, host_adopt, host_start, replied}
+use Rattle.sb_host.specs.HostWorkers.{after_answer_to, after_performing_on, copy_to_answer, host_adopt, host_start, replied}
 use Rattle.sb_host.specs.Replies.{HostsReplyAsBooks, host_reply}
 use Rattle.sb_host.specs.HostLaws.{AdoptingHostsAreTrue, AnswerWith, DecideBy, Found, HostCall, Hosted, IsTrueTo, Journal, Loaded, NewHostsAreTrue, PerformingIsAnswering, Stored, Told, hosted_after, hosted_by, no_journal}
 

@@ -7,3 +7,5 @@ pub mod CallSteps
 pub mod CallRanges
 pub mod ChannelRuns
 pub mod CallerSteps
+pub mod Histories
+pub mod Copying

@@ -1,19 +1,18 @@
 -- The texts of literals.
 use Rattle.std.specs.Prelude.{nat_le, not}
 use Rattle.std.specs.List.{list_all, list_any}
-use Rattle.std.proofs.Common.{◌≡◌, ◌∙◌, ℕ, Bool, true, false, ◌&&◌, ◌||◌, ◌==◌, List, [], ◌∷◌, ◌++◌, Ok, length, map, refl, sym, ap, subst}
+use Rattle.std.proofs.Common.{◌≡◌, ◌∙◌, ℕ, Bool, true, false, ◌&&◌, ◌||◌, ◌==◌, List, [], ◌∷◌, ◌++◌, length, map, refl, sym, ap, subst}
 use Rattle.std.proofs.lemmas.Bool.{and_parts}
 use Rattle.sb_base.specs.Surrogates.{is_paired}
 use Rattle.sb_base.specs.Wide.{is_text_unit}
 use Rattle.sb_text.specs.Strings.{StringsComeBack}
-use Rattle.sb_text.specs.Tokens.{string_of, utf8_of}
+use Rattle.sb_text.specs.Tokens.{utf8_of}
 use Rattle.sb_rule.specs.Matching.{LiteralsMatchTheSame}
 use Rattle.sb_rule.specs.PatternLimits.{most_units}
 use Rattle.sb_rule.specs.PatternReading.{PatternsAreRead, begins_with_one, cell_text, is_pattern, is_spellable, reading, text_of}
 use Rattle.sb_rule.specs.WellMade.{is_policy_text}
-use Rattle.sb_rule.specs.declared.cells.Cell.{Cell}
 use Rattle.sb_rule.specs.declared.cells.Cell.TheVariants.{Lit}
-use Rattle.sb_host.specs.Literals.{CanBeQuoted, IsPatternLiteral, IsStringLiteral, has_pattern_literal, literal_cells, literal_text}
+use Rattle.sb_host.specs.Literals.{IsPatternLiteral, IsStringLiteral, has_pattern_literal, literal_cells, literal_text}
 
 -- what is written of a string of a policy can be between quotes, and means that string
 written_means : StringsComeBack → (us : List ℕ) → is_policy_text us ≡ true → IsStringLiteral us (utf8_of us)

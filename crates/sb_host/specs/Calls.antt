@@ -1,5 +1,5 @@
 -- A call in plain memory: the caller's side of it, step by step. A table of phase, step and next phase; one row is one atomic step.
-use Rattle.std.specs.Prelude.{◌≡◌, ℕ, ◌+◌, ◌<◌, Bool, true, false, ◌&&◌, ◌||◌, ◌==◌, not, nat_le, nat_lt, List, [], ◌∷◌, ◌++◌, length, replicate, slice_index, take, Option, None, Some, option_map, if◌then◌else◌}
+use Rattle.std.specs.Prelude.{◌≡◌, ℕ, ◌+◌, Bool, true, false, ◌&&◌, ◌||◌, ◌==◌, not, nat_le, nat_lt, List, [], ◌∷◌, ◌++◌, length, replicate, slice_index, take, Option, None, Some, if◌then◌else◌}
 use Rattle.sb_block.specs.Layout.{mark_in}
 use Rattle.sb_block.specs.Replies.{read_reply}
 use Rattle.sb_actor.specs.Acts.{state_word, block_word, free, busy, ready, acknowledged, abandoned}
@@ -11,7 +11,6 @@ use Rattle.sb_actor.specs.declared.acts.Act.{Act}
 use Rattle.sb_actor.specs.declared.acts.Act.TheVariants as act
 use Rattle.sb_statements.specs.declared.results.CallResult.{CallResult}
 use Rattle.sb_statements.specs.declared.results.CallResult.TheVariants as result
-use Rattle.sb_statements.specs.declared.results.StmtResult.{StmtResult}
 use Rattle.sb_statements.specs.declared.results.StmtResult.TheVariants.{Call}
 use Rattle.sb_statements.specs.declared.scripts.Script.{Script}
 use Rattle.sb_host.specs.declared.calls.CallPhase.{CallPhase}

@@ -21,7 +21,7 @@ use Rattle.sb_actor.specs.WordMoves.{worker_loads, worker_moves_left, worker_sto
 use Rattle.sb_actor.specs.WordSteps.{worker_load, worker_store}
 use Rattle.sb_actor.specs.declared.acts.Act.{Act}
 use Rattle.sb_actor.specs.declared.acts.Act.TheVariants as act
-use Rattle.sb_host.specs.Replies.{host_reply}
+use Rattle.sb_host.specs.Replies.{host_reply, takes_space}
 use Rattle.sb_host.specs.declared.host_workers.Undecided.{Undecided}
 use Rattle.sb_host.specs.declared.host_workers.Undecided.TheVariants.{Unfit, NoMemory}
 
@@ -180,6 +180,11 @@ space_by None decision ns target = ns
 
 abbrev pub space_after_performing : HostAt → Space → ℕ → Space
 space_after_performing h ns target = space_by (copy_to_answer h) h.decision ns target
+
+-- the namespace needs memory for what is decided of a copy
+abbrev pub takes_space_for : Option Decision → Space → ℕ → Bool
+takes_space_for None ns target = false
+takes_space_for (Some d) ns target = takes_space ns target d
 
 -- what is decided has arguments that fit its call
 abbrev pub is_fitting_if_decided : Option Decision → Bool

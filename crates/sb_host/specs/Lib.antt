@@ -4,3 +4,5 @@ pub mod Calls
 pub mod Literals
 pub mod HostLaws
 pub mod ChannelLaws
+pub mod HistoryLaws
+pub mod Blocks

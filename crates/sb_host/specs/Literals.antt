@@ -1,6 +1,6 @@
 -- The texts of literals: what is written between quotes in a policy so that it means exactly a given string.
-use Rattle.std.specs.Prelude.{◌≡◌, ℕ, Bool, true, false, List, map, Ok, ⊤}
-use Rattle.std.specs.List.{flat_map, list_all}
+use Rattle.std.specs.Prelude.{◌≡◌, ℕ, Bool, true, false, ◌==◌, List, map, Ok}
+use Rattle.std.specs.List.{flat_map, list_all, list_any}
 use Rattle.std.specs.Str.{IsUtf8}
 use Rattle.sb_base.specs.Wide.{is_same}
 use Rattle.sb_base.specs.declared.refusals.Refused.{Refused}
@@ -46,7 +46,11 @@ pub record IsPatternLiteral (us text : List ℕ) : Type 0 where
   pub read : reading (string_of text) ≡ Ok (literal_cells us)
   pub matches_the_same : (other : List ℕ) → matches (literal_cells us) other ≡ is_same other us
 
--- a refusal is out of memory, or there is no literal
-abbrev pub IsNoLiteral : Bool → Refused NoLiteral → Type 0
-IsNoLiteral has (Fault fault) = has ≡ false
-IsNoLiteral has NoMemory = ⊤
+-- there is no literal, or none was written though there was one, or might have been, since there was no memory
+abbrev pub IsNoLiteral : Bool → Bool → Refused NoLiteral → Type 0
+IsNoLiteral might has (Fault fault) = has ≡ false
+IsNoLiteral might has NoMemory = might ≡ true
+
+-- a string without a `*` may have a literal as a pattern
+abbrev pub has_star : List ℕ → Bool
+has_star us = list_any (λ u. u == 42) us

@@ -1,9 +1,9 @@
 -- What a host replies to a decision.
-use Rattle.std.specs.Prelude.{◌≡◌, ℕ, []}
+use Rattle.std.specs.Prelude.{◌≡◌, ℕ, Bool, false, []}
 use Rattle.sb_call.specs.Statuses.{success, invalid_parameter, access_denied}
 use Rattle.sb_call.specs.declared.replies.Answer.{Answer}
 use Rattle.sb_call.specs.declared.replies.Reply.{Reply}
-use Rattle.sb_kernel.specs.Namespaces.{Space, perform}
+use Rattle.sb_kernel.specs.Namespaces.{Space, perform, takes_memory}
 use Rattle.sb_book.specs.Histories.{reply_of}
 use Rattle.sb_book.specs.Replies.{denied_outcome, fault_words, faked_outcome, performed_reply, refused_outcome}
 use Rattle.sb_book.specs.declared.decisions.Decision.{Decision}
@@ -20,6 +20,13 @@ host_reply mark (Performed tag line action args) answer = performed_reply mark a
 abbrev pub IsSpaceAnswer : Space → ℕ → Decision → Answer → Type 0
 IsSpaceAnswer ns target (Performed tag line action args) answer = answer ≡ (perform ns target tag args).answer
 IsSpaceAnswer ns target _ answer = Unit {0}
+
+-- the namespace needs memory for what is decided
+abbrev pub takes_space : Space → ℕ → Decision → Bool
+takes_space ns target (Performed tag line action args) = takes_memory ns target tag args
+takes_space ns target (Refused f) = false
+takes_space ns target (Denied tag verdict) = false
+takes_space ns target (Faked tag line) = false
 
 -- a host that answers as the namespace does replies as the book does
 abbrev pub HostsReplyAsBooks : Type 0

@@ -6,8 +6,8 @@ ghost use Rattle.sb_book.specs.Decisions.{decision_of, is_fitting};
 ghost use Rattle.sb_book.specs.Histories.{space_after};
 ghost use Rattle.sb_book.specs.Rulings.{ruling_of};
 ghost use Rattle.sb_actor.specs.Acts.{observation};
-ghost use Rattle.sb_host.specs.Replies.{IsSpaceAnswer};
-ghost use Rattle.sb_host.specs.HostWorkers.{host_start, host_adopt, host_plan, is_answer, is_taking_over, copy_to_answer, after_step, host_moves, can_load, can_store, after_loads, after_stores, values_to_store, can_decide, IsUnfit, LacksMemory, after_decision, granted_args, asked, can_reply, after_answer, after_performing, space_after_performing};
+ghost use Rattle.sb_host.specs.Replies.{IsSpaceAnswer, takes_space};
+ghost use Rattle.sb_host.specs.HostWorkers.{host_start, host_adopt, host_plan, is_answer, is_taking_over, copy_to_answer, after_step, host_moves, can_load, can_store, after_loads, after_stores, values_to_store, can_decide, IsUnfit, LacksMemory, after_decision, granted_args, asked, can_reply, after_answer, after_performing, space_after_performing, takes_space_for};
 
 use crate::laws::performing_is_answering;
 use crate::policy_sets::PolicySet;
@@ -155,6 +155,13 @@ impl HostWorker {
         true
     }
 
+    /// The channel at which it is, from 0: at the answer that of the copy.
+    pub fn channel(&self) -> u32
+        ensures { result ≡ self.now.worker.channel }
+    {
+        self.worker.channel()
+    }
+
     /// How many of its next steps move one word of the block or of the reply each, whatever they find.
     pub fn moves(&self) -> u32
         ensures { result ≡ host_moves self.now }
@@ -296,13 +303,14 @@ impl HostWorker {
     /// reply. `Ok(false)` exactly if there is no copy to answer or nothing is decided of it; then nothing changes.
     ///
     /// # Errors
-    /// `NoMemory` if the namespace had none for the call; then nothing changes.
+    /// `NoMemory` if the call grants a handle or renames, and the namespace had none for that; then nothing changes.
     #[tactic(auto, using(crate::proofs::AnswerLemmas::marked_answer, crate::proofs::AnswerLemmas::answer_is_planned))]
     pub fn perform(&mut self, kernel: &mut Kernel, target: u32) -> Result<bool, NoMemory>
         ensures done { IfOk result (λ done. done ≡ can_reply self.old) }
         ensures after { OnOk result (self.new ≡ after_performing self.old kernel.old target) }
         ensures space { OnOk result (kernel.new ≡ space_after_performing self.old kernel.old target) }
         ensures decided { OnErr result (can_reply self.old ≡ true) }
+        ensures memory { OnErr result (takes_space_for self.old.decision kernel.old target ≡ true) }
         ensures same { OnErr result ((self.new ≡ self.old) × (kernel.new ≡ kernel.old)) }
     {
         performing_is_answering();
@@ -341,6 +349,7 @@ fn answer_in(kernel: &mut Kernel, target: u32, decision: &Decision) -> Result<An
     requires fits { is_fitting decision.now ≡ true }
     ensures answer { IfOk result (λ answer. IsSpaceAnswer kernel.old target decision.now answer) }
     ensures space { OnOk result (kernel.new ≡ space_after kernel.old target decision.now) }
+    ensures memory { OnErr result (takes_space kernel.old target decision.now ≡ true) }
     ensures same { OnErr result (kernel.new ≡ kernel.old) }
 {
     match decision {

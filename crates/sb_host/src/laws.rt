@@ -1,6 +1,7 @@
 // Laws of hosts. None of these functions does anything: each contract is a law.
 ghost use Rattle.sb_host.specs.Calls.{CallsStepAsThreads};
 ghost use Rattle.sb_host.specs.ChannelLaws.{CallsGoAsCallers, CallsHaveTheirReplies};
+ghost use Rattle.sb_host.specs.HistoryLaws.{HostsKeepTheSpace, HostsMakeHistories, HostsReplyAsEntries};
 ghost use Rattle.sb_host.specs.HostLaws.{AdoptingHostsAreTrue, NewHostsAreTrue, PerformingIsAnswering};
 ghost use Rattle.sb_host.specs.Replies.{HostsReplyAsBooks};
 
@@ -22,6 +23,15 @@ pub fn hosts_are_true_to_what_they_told()
 pub fn performing_is_answering()
     ensures answering { PerformingIsAnswering }
     ensures book { HostsReplyAsBooks }
+{}
+
+/// Answers in a namespace of the product's own, one after another, each by the policy of its target on the copy of its worker, are a legal history;
+/// the namespace is the one that its entries lead to, and each worker replies what its entry says.
+#[tactic(auto, using(crate::proofs::Histories::histories, crate::proofs::Histories::spaces, crate::proofs::Histories::replies))]
+pub fn hosts_make_histories()
+    ensures legal { HostsMakeHistories }
+    ensures space { HostsKeepTheSpace }
+    ensures replies { HostsReplyAsEntries }
 {}
 
 /// On the channels of one target, whose states are 1 and whose other words are 0 at the start, and into which nobody but the worker and the

@@ -4,6 +4,7 @@
 // Nothing here touches a shared word, performs a call for the host, or waits.
 #![tactic(auto)]
 
+mod blocks;
 mod calls;
 mod host_workers;
 mod laws;
@@ -11,11 +12,12 @@ mod literals;
 mod policy_sets;
 mod replies;
 
+pub use blocks::{NoBlock, block_of, copy_of};
 pub use calls::ClientCall;
 pub use host_workers::{HostWorker, Undecided};
 pub use laws::{
     calls_go_as_callers, calls_have_their_replies, calls_step_as_threads,
-    hosts_are_true_to_what_they_told, performing_is_answering,
+    hosts_are_true_to_what_they_told, hosts_make_histories, performing_is_answering,
 };
 pub use literals::{LiteralRefused, pattern_literal, string_literal};
 pub use policy_sets::PolicySet;

@@ -1,13 +1,13 @@
 // The texts of literals, for hosts that build policies from strings of their own, as the folder of a profile. What is special in a policy
 // (`*`, `?`, `"`, the end of a line) never becomes a rule that nobody wrote.
-ghost use Rattle.std.specs.Prelude.{◌≡◌, ◌++◌, true, ◌==◌, IfOk, IfErr, OnOk};
-ghost use Rattle.std.specs.List.{list_all, list_any};
+ghost use Rattle.std.specs.Prelude.{◌≡◌, ◌++◌, true, not, ◌==◌, IfOk, IfErr, OnOk};
+ghost use Rattle.std.specs.List.{list_all};
 ghost use Rattle.sb_base.specs.Wide.{is_text_unit};
 ghost use Rattle.sb_text.specs.Tokens.{utf8_of};
 ghost use Rattle.sb_rule.specs.PatternReading.{cell_text};
 ghost use Rattle.sb_rule.specs.declared.cells.Cell.TheVariants.{Lit};
 ghost use Rattle.sb_rule.specs.WellMade.{is_policy_text};
-ghost use Rattle.sb_host.specs.Literals.{has_string_literal, has_pattern_literal, literal_text, IsNoLiteral, IsStringLiteral, IsPatternLiteral};
+ghost use Rattle.sb_host.specs.Literals.{has_string_literal, has_pattern_literal, literal_text, has_star, IsNoLiteral, IsStringLiteral, IsPatternLiteral};
 
 use sb_base::{NoMemory, Refused, is_well_formed_utf16};
 use sb_rule::{MOST_UNITS, literals_match_the_same, texts_and_patterns};
@@ -63,7 +63,7 @@ fn written(alloc: Global, units: &[u16]) -> Result<Vec<u8>, NoMemory>
 pub fn string_literal(alloc: Global, units: &[u16]) -> Result<Vec<u8>, LiteralRefused>
     ensures text { IfOk result (λ text. IsStringLiteral units.now text.items) }
     ensures some { OnOk result (has_string_literal units.now ≡ true) }
-    ensures none { IfErr result (IsNoLiteral (has_string_literal units.now)) }
+    ensures none { IfErr result (IsNoLiteral (has_string_literal units.now) (has_string_literal units.now)) }
 {
     quoted_strings_are_read();
     if !is_policy_text(units) {
@@ -79,7 +79,7 @@ fn is_star(unit: u16) -> bool
 }
 
 fn has_star(units: &[u16]) -> bool
-    ensures { result ≡ list_any (λ unit. unit == 42) units.now }
+    ensures { result ≡ has_star units.now }
 {
     units.iter().any(|unit| is_star(*unit))
 }
@@ -130,7 +130,7 @@ fn written_pattern(alloc: Global, units: &[u16], text: &[u16]) -> Result<Vec<u8>
 pub fn pattern_literal(alloc: Global, units: &[u16]) -> Result<Vec<u8>, LiteralRefused>
     ensures text { IfOk result (λ text. IsPatternLiteral units.now text.items) }
     ensures some { OnOk result (has_pattern_literal units.now ≡ true) }
-    ensures none { IfErr result (IsNoLiteral (has_pattern_literal units.now)) }
+    ensures none { IfErr result (IsNoLiteral (not (has_star units.now)) (has_pattern_literal units.now)) }
 {
     if has_star(units) {
         return Err(Refused::Fault(NoLiteral));

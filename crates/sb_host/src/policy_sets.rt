@@ -1,14 +1,15 @@
 // Policies and the programs by which they judge, in one value.
-ghost use Rattle.std.specs.Prelude.{◌≡◌, ◌<◌, [], length, map, true, is_some, nat_lt, IfOk, IfSome, MatchOption};
+ghost use Rattle.std.specs.Prelude.{◌≡◌, ◌<◌, ◌&&◌, [], length, map, true, is_some, nat_lt, IfOk, IfSome, MatchOption};
 ghost use Rattle.std.specs.List.{list_all, position};
-ghost use Rattle.sb_rule.specs.Verdicts.{policy_at};
+ghost use Rattle.sb_call.specs.Arguments.{fits};
+ghost use Rattle.sb_rule.specs.Verdicts.{policy_at, verdict_of};
 ghost use Rattle.sb_rule.specs.WellMade.{is_named, is_well_made};
 ghost use Rattle.sb_rule.specs.declared.policies.Policy.{Policy};
 ghost use Rattle.sb_compile.specs.Compiling.{program_of};
 ghost use Rattle.sb_compile.specs.Targets.{nothing};
 
 use sb_base::{Items, NoMemory};
-use sb_call::{Arg, CallTag};
+use sb_call::{Arg, CallTag, fits};
 use sb_compile::{Program, ProgramList, compile};
 use sb_rule::{Judge, Policies, Policy, PolicyList, Verdict, WellMadePolicies};
 use std::alloc::Global;
@@ -102,6 +103,18 @@ impl PolicySet {
         ensures policy { IfSome result (λ policy. policy.now ≡ policy_at self.now.policies number) }
     {
         self.policies.policies().list.get(number)
+    }
+
+    /// The verdict of the policy with this number on a call, by its program. None exactly if there is no such policy, or the arguments are not
+    /// those of the call. Does not allocate.
+    pub fn verdict(&self, policy: u32, tag: CallTag, args: &[Arg]) -> Option<Verdict>
+        ensures some { is_some result ≡ (nat_lt policy (length self.now.policies) && fits tag args.now) }
+        ensures verdict { IfSome result (λ verdict. verdict ≡ verdict_of (policy_at self.now.policies policy) tag args.now) }
+    {
+        if policy as usize >= self.len() || !fits(tag, args) {
+            return None;
+        }
+        Some(self.judge(policy, tag, args))
     }
 
     // The program of a policy.

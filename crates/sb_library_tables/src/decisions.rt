@@ -2,12 +2,12 @@
 
 use crate::channels::Channel;
 use crate::policies::{put_verdict, set_of};
-use sb_block::encode;
+use sb_block::fault_of;
 use sb_book::Ruling;
-use sb_call::{Answer, Arg, fits};
-use sb_host::{HostWorker, PolicySet, Undecided};
+use sb_call::{Answer, Arg};
+use sb_host::{HostWorker, NoBlock, PolicySet, Undecided, copy_of};
 use sb_kernel::Kernel;
-use sb_rows::{RowFault, call, put_word};
+use sb_rows::{RowFault, call, number, put_word};
 use sb_rule::Verdict;
 use std::alloc::Global;
 
@@ -20,13 +20,25 @@ const MARK: u64 = 0x10000;
 /// The block of a call. Its mark is 0x10000.
 pub fn block_of(alloc: Global, text: &str) -> Result<Vec<u64>, RowFault> {
     let (tag, args) = call(alloc, text)?;
-    if !fits(tag, args.as_slice()) {
-        return Err(RowFault::NotInRange);
-    }
-    match encode(tag, args.as_slice(), MARK) {
+    match sb_host::block_of(tag, args.as_slice(), MARK) {
         Ok(words) => Ok(Vec::from_slice(alloc, words.as_slice())?),
-        Err(_) => Err(RowFault::TooMany),
+        Err(NoBlock::Unfit) => Err(RowFault::NotInRange),
+        Err(NoBlock::TooBig) => Err(RowFault::TooMany),
     }
+}
+
+/// Whether the block of a call, before which a count and an end were loaded, is a copy, and whether it has a fault.
+pub fn copied(alloc: Global, loaded: &str, text: &str) -> Result<String, RowFault> {
+    let (count, end) = loaded.split_once(' ').unwrap_or((loaded, "0"));
+    let block = block_of(alloc, text)?;
+    let told = match copy_of(number(count)?, number(end)?, &block) {
+        None => "no copy",
+        Some(copy) => match fault_of(&copy) {
+            None => "a copy without a fault",
+            Some(_) => "a copy with a fault",
+        },
+    };
+    Ok(String::from_str(alloc, told)?)
 }
 
 /// Makes the steps of a worker until it is to answer, or has looked in vain. True if it is to answer.

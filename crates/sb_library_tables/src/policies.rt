@@ -2,8 +2,8 @@
 
 use sb_call::CallTag;
 use sb_host::PolicySet;
-use sb_rows::{RowFault, call, put_word};
-use sb_rule::{Judge, Verdict};
+use sb_rows::{RowFault, call, put_between, put_word};
+use sb_rule::Verdict;
 use sb_ruletext::{TextRefused, read_policies};
 use std::alloc::Global;
 
@@ -50,17 +50,18 @@ pub fn found_in_none(alloc: Global, name: &str) -> Result<String, RowFault> {
     told_policy(alloc, &PolicySet::empty(alloc), name)
 }
 
-/// The verdicts of both policies on a call.
+/// The verdicts of both policies on a call, and of a third one, which is not there.
 pub fn judged(alloc: Global, rules: &str, text: &str) -> Result<String, RowFault> {
     let set = set_of(alloc, rules)?;
     let (tag, args) = call(alloc, text)?;
-    if set.len() < 2 || !sb_call::fits(tag, args.as_slice()) {
-        return Err(RowFault::NotInRange);
-    }
     let mut out = String::new(alloc);
-    put_verdict(&mut out, tag, set.judge(0, tag, args.as_slice()))?;
-    out.push_str("; ")?;
-    put_verdict(&mut out, tag, set.judge(1, tag, args.as_slice()))?;
+    for policy in 0..3 {
+        put_between(&mut out, "; ")?;
+        match set.verdict(policy, tag, args.as_slice()) {
+            Some(verdict) => put_verdict(&mut out, tag, verdict)?,
+            None => out.push_str("none")?,
+        }
+    }
     Ok(out)
 }
 

@@ -19,6 +19,7 @@ pub fn value_of(alloc: Global, row: &str) -> Result<String, RowFault> {
         [rules, second] => match name {
             "find" => policies::found(alloc, rules, second),
             "judge" => policies::judged(alloc, rules, second),
+            "copy" => decisions::copied(alloc, rules, second),
             "decide" => decisions::decided(alloc, rules, second),
             "refuse" => decisions::refused(alloc, rules, second),
             "perform" => decisions::performed(alloc, rules, second),
