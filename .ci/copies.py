@@ -7,35 +7,10 @@ import shutil
 import subprocess
 import tempfile
 
-TOP = os.path.dirname(os.path.dirname(os.path.realpath(__file__)))
+from graph import TOP, below, crate_lines, name_in
+
 CRATES = os.path.join(TOP, "crates")
 PARTS = ("src", "specs", "proofs", "must-fail", "mutations")
-
-
-def crate_lines():
-    with open(os.path.join(TOP, "crates.txt"), encoding="utf-8") as file:
-        return [line for line in file if line.strip() and not line.startswith("#")]
-
-
-def name_in(line):
-    return line.split(":")[0].split()[0]
-
-
-def read_crates():
-    """The crates of crates.txt, each with the crates of the repository that it uses."""
-    uses = {name_in(line): line.partition(":")[2].split() for line in crate_lines()}
-    return {crate: [name for name in names if name in uses] for crate, names in uses.items()}
-
-
-def below(uses, crate):
-    """The crates below one, and itself."""
-    found, left = set(), [crate]
-    while left:
-        name = left.pop()
-        if name not in found:
-            found.add(name)
-            left += uses[name]
-    return found
 
 
 def link(source, target):

@@ -13,7 +13,10 @@ import re
 import sys
 import textwrap
 
-TOP = os.path.dirname(os.path.dirname(os.path.realpath(__file__)))
+sys.dont_write_bytecode = True
+
+from graph import TOP, libraries
+
 PLACE = "docs/LAWS.md"
 WIDTH = 160
 SHORT = 100
@@ -45,12 +48,6 @@ def text_of(path):
 
 def files(pattern):
     return sorted(glob.glob(pattern, root_dir=TOP, recursive=True))
-
-
-def crates():
-    """The names of all crates, lowest first."""
-    lines = text_of("crates.txt").splitlines()
-    return [re.split(r"[ :]", line)[0] for line in lines if line.strip() and not line.startswith("#")]
 
 
 def comment_above(lines, at, mark):
@@ -231,7 +228,7 @@ def of_crate(crate):
 
 
 def document():
-    described = [(crate, lines) for crate in crates() if (lines := of_crate(crate))]
+    described = [(crate, lines) for crate in libraries() if (lines := of_crate(crate))]
     links = ", ".join("[%s](#%s)" % (crate, crate) for crate, _ in described)
     lines = [*HEAD.splitlines(), "", *wrapped(links, "", ""), "", *(line for _, found in described for line in found)]
     return "\n".join(line.rstrip() for line in lines).rstrip("\n") + "\n"

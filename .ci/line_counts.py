@@ -8,18 +8,16 @@ a law. Lines of specs/ and proofs/ are counted without blank lines, comments and
 import glob
 import os
 import re
+import sys
 
-TOP = os.path.dirname(os.path.dirname(os.path.realpath(__file__)))
+sys.dont_write_bytecode = True
+
+from graph import TOP, libraries
+
 IMPORT = re.compile(r"(?:pub(?:\([a-z]+\))? )?(?:use |mod \w+;)")
 CONTRACT = re.compile(r"(?:ensures|requires|ghost)\b")
 FUNCTION = re.compile(r" *(?:pub(?:\([a-z]+\))? )?(?:const )?fn ")
 QUOTED = re.compile(r"'[{}\[\]]'|\"(?:[^\"\\]|\\.)*\"")
-
-
-def crates():
-    """The names of all crates, lowest first."""
-    with open(os.path.join(TOP, "crates.txt"), encoding="utf-8") as file:
-        return [line.split()[0].removesuffix(":") for line in file if line.strip() and not line.startswith("#")]
 
 
 def texts(crate, pattern):
@@ -96,7 +94,7 @@ def row(crate):
 
 
 def main():
-    rows = [(crate, row(crate)) for crate in crates()]
+    rows = [(crate, row(crate)) for crate in libraries()]
     rows.append(("all", [sum(column) for column in zip(*(numbers for _, numbers in rows))]))
     print("| Crate | src/ | Code | specs/ | Bare | proofs/ | Bare | Mutations in the gate | Others | Lines of table tests |")
     print("|---" * 10 + "|")

@@ -1,8 +1,8 @@
 #!/usr/bin/env python3
 """Looks at where each mutation of the gate was refused, in what `rt ci` printed: refusals.py FILE.
 
-A mutation leaves out of its trial the modules that the mutated function does not need (the lines of its file after `file: src/lib.rt`). So that
-it is not refused for one of these, the first place that the prover names has to be in the file that the mutation changes first.
+An answer of a proof may fit a mutated function no more, which shows nothing of the contract. So the first place that the prover names has to be
+in the file that the mutation changes.
 """
 import glob
 import os

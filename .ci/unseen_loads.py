@@ -9,22 +9,16 @@ import os
 import re
 import sys
 
-TOP = os.path.dirname(os.path.dirname(os.path.realpath(__file__)))
+sys.dont_write_bytecode = True
+
+from graph import TOP, libraries
+
 UNSEEN = re.compile(r"\bpeek\b|\bload_new_seat\b|\braw\s*::")
-
-
-def crates():
-    """The crates whose line of crates.txt names `atomic_table`."""
-    with open(os.path.join(TOP, "crates.txt"), encoding="utf-8") as file:
-        for line in file:
-            name, _, libraries = line.partition("#")[0].partition(":")
-            if "atomic_table" in libraries.split():
-                yield name.split()[0]
 
 
 def main():
     found = False
-    for crate in crates():
+    for crate in (crate for crate, names in libraries().items() if "atomic_table" in names):
         for path in sorted(glob.glob("crates/%s/src/**/*.rt" % crate, root_dir=TOP, recursive=True)):
             with open(os.path.join(TOP, path), encoding="utf-8") as file:
                 for number, line in enumerate(file, 1):

@@ -12,7 +12,7 @@ CALLS = 4096
 LONG = "n" * 1_300_000
 FILES = 2000
 PIPES = 4096
-MOST_SECONDS_OF_PIPES = 0.015
+MAX_SECONDS_OF_PIPES = 0.015
 
 # What is measured, with its opening, its calls, and the most seconds that the best run may take. The names are as long, and the
 # lines as many, as the limits of scripts let them be, or nearly.
@@ -83,8 +83,8 @@ def measure_pipes(runs):
     if len(results) != 2 * PIPES or not all(" reply 0 0 00000000 " in line for line in results):
         programs.fail("a call on a pipe was no success")
     print("replay: 4,096 pipes made and closed, %.3f s" % best)
-    if best > MOST_SECONDS_OF_PIPES:
-        programs.miss("4,096 pipes take more than %.3f seconds" % MOST_SECONDS_OF_PIPES)
+    if best > MAX_SECONDS_OF_PIPES:
+        programs.miss("4,096 pipes take more than %.3f seconds" % MAX_SECONDS_OF_PIPES)
 
 
 def measure_missing_parent(runs):

@@ -103,7 +103,7 @@ def measure(runs):
     size = measure_audit(runs, "%d mixed calls" % (32 * MIXED_CALLS), policy, mixed_script(MIXED_CALLS), 2 * (32 * MIXED_CALLS,), 0.15, 60 * MIB)
     if not 4 * MIB <= size <= 4.1 * MIB:
         programs.fail("the transcript of mixed calls has %d bytes, which is not 4 MiB" % size)
-    pings, many = texts.single_policy(["allow ping"]), stepping.MOST_STATEMENTS
+    pings, many = texts.single_policy(["allow ping"]), stepping.MAX_STATEMENTS
     measure_audit(runs, "%d pings" % many, pings, stepping.pings(8, 8, 4096), (many, many), 0.7)
     counts = long_counts()
     size = measure_audit(runs, "%d renames of long names" % counts[0], texts.single_policy(["allow file.rename"]), long_script(), counts, 5, 3 * GIB // 2)

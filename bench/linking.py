@@ -10,8 +10,8 @@ CALLS = 8 * 4 * 4096
 
 
 # The most seconds for a file of links of 4 MiB.
-MOST_SECONDS = 0.05
-MOST_TEXT = 4 * 1024 * 1024
+MAX_SECONDS = 0.05
+MAX_TEXT = 4 * 1024 * 1024
 
 # Units that differ also if letters are folded.
 ENDS = [chr(0x100 + number) for number in range(64)]
@@ -83,10 +83,10 @@ def measure_calls(runs, what, links, names, most):
 
 
 def padded(lines, last):
-    """These lines, then comments up to nearly MOST_TEXT, and the last lines."""
+    """These lines, then comments up to nearly MAX_TEXT, and the last lines."""
     comment = "# " + "where this name leads " * 40
     size = sum(len((line + "\n").encode()) for line in lines + last)
-    return lines + [comment] * ((MOST_TEXT - size) // (len(comment) + 1)) + last
+    return lines + [comment] * ((MAX_TEXT - size) // (len(comment) + 1)) + last
 
 
 def texts_of_links():
@@ -109,8 +109,8 @@ def measure_texts(runs):
                 if told[0] != status or not told[2].startswith(message):
                     programs.fail("links %s ended with status %d and %r" % (what, told[0], told[2]))
             print("4 MiB of links %s: %.3f seconds" % (what, min(spent)))
-            if min(spent) > MOST_SECONDS:
-                programs.miss("4 MiB of links %s take more than %.2f seconds" % (what, MOST_SECONDS))
+            if min(spent) > MAX_SECONDS:
+                programs.miss("4 MiB of links %s take more than %.2f seconds" % (what, MAX_SECONDS))
 
 
 def measure(runs):

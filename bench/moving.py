@@ -1,4 +1,4 @@
-"""Moves of handles: the time of `dup` beyond that of `replay` of the same policies and script. Each work may take MOST_SECONDS of it."""
+"""Moves of handles: the time of `dup` beyond that of `replay` of the same policies and script. Each work may take MAX_SECONDS of it."""
 import os
 
 import programs
@@ -8,7 +8,7 @@ MOVES = 4096
 RULES = 256
 FILES = 4000
 READ = 0x80000000
-MOST_SECONDS = 0.02
+MAX_SECONDS = 0.02
 
 REPLAY = ["replay", "policy", "script"]
 DUP = ["dup", "policy", "script", "moves"]
@@ -77,8 +77,8 @@ def measure_moves(runs, name, calls, moves):
         check_dup(folder, len(moves))
         replayed, moved = programs.best_in_turns(max(runs, LEAST_RUNS), folder, [REPLAY, DUP])
     print("dup: %d moves %s, %.4f seconds beyond the run" % (len(moves), name, moved - replayed))
-    if moved - replayed > MOST_SECONDS:
-        programs.miss("%d moves %s take more than %.2f seconds" % (len(moves), name, MOST_SECONDS))
+    if moved - replayed > MAX_SECONDS:
+        programs.miss("%d moves %s take more than %.2f seconds" % (len(moves), name, MAX_SECONDS))
 
 
 def measure(runs):

@@ -1,11 +1,11 @@
-"""Texts as long as they may be: a policy that is checked, and a script that is read. Each may take MOST_SECONDS."""
+"""Texts as long as they may be: a policy that is checked, and a script that is read. Each may take MAX_SECONDS."""
 import os
 
 import programs
 import texts
 
-MOST_SECONDS = 1
-MOST_TEXT = 4 * 1024 * 1024
+MAX_SECONDS = 1
+MAX_TEXT = 4 * 1024 * 1024
 
 
 def policy_lines():
@@ -56,8 +56,8 @@ def best_of(runs, folder, words, wanted):
 
 def put_reading(what, size, best):
     print("%s: %d bytes, %.3f seconds, %d bytes per second" % (what, size, best, size / best))
-    if best > MOST_SECONDS:
-        programs.miss("a %s of 4 MiB takes more than %d seconds" % (what, MOST_SECONDS))
+    if best > MAX_SECONDS:
+        programs.miss("a %s of 4 MiB takes more than %d seconds" % (what, MAX_SECONDS))
 
 
 def measure_policy(runs):
@@ -75,7 +75,7 @@ def measure_script(runs):
     told = "sandbox: script line %d fault 4" % len(lines)
     with texts.folder_with(texts.single_policy(["allow ping"]), lines) as folder:
         size = os.path.getsize(os.path.join(folder, "script"))
-        if not MOST_TEXT * 63 // 64 < size <= MOST_TEXT:
+        if not MAX_TEXT * 63 // 64 < size <= MAX_TEXT:
             programs.fail("the script has %d bytes, which is not nearly 4 MiB" % size)
         best = best_of(runs, folder, ["replay", "policy", "script"], (4, "", told))
     put_reading("script", size, best)

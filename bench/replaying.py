@@ -6,8 +6,8 @@ import steps
 import texts
 
 CALLS = 4096
-MOST_SECONDS = 0.02
-MOST_BYTES = 64 * 1024 * 1024
+MAX_SECONDS = 0.02
+MAX_BYTES = 64 * 1024 * 1024
 
 ALLOWED = ["\\ready", "\\done", "\\Sessions\\1\\started", "\\Sessions\\1\\Windows\\ended", "\\a", "\\" + "n" * 120]
 OTHERS = ["\\Ready?", "\\gone", "\\Sessions\\2\\started", "\\b", "\\" + "m" * 140]
@@ -40,7 +40,7 @@ def event_words(name):
 
 def measure_events(runs):
     """Calls and steps per second, and the peak of memory, of a thread that creates events. It fails where the best run takes
-    more than MOST_SECONDS in all, or where a run takes more than MOST_BYTES."""
+    more than MAX_SECONDS in all, or where a run takes more than MAX_BYTES."""
     made = list(event_calls())
     performed = sum(name in ALLOWED for name, _, _ in made)
     count = steps.steps([event_words(name) for name, _, _ in made])
@@ -55,10 +55,10 @@ def measure_events(runs):
     print("seconds of each run: " + " ".join("%.3f" % seconds for seconds, _ in measured))
     print("best run: %d calls per second, %d steps per second" % (CALLS / best, count / best))
     print("peak of memory: %.1f MiB" % (most / 1024 / 1024))
-    if best > MOST_SECONDS:
-        programs.miss("%d calls of event.create take more than %.2f seconds" % (CALLS, MOST_SECONDS))
-    if most > MOST_BYTES:
-        programs.miss("more than %d MiB" % (MOST_BYTES // 1024 // 1024))
+    if best > MAX_SECONDS:
+        programs.miss("%d calls of event.create take more than %.2f seconds" % (CALLS, MAX_SECONDS))
+    if most > MAX_BYTES:
+        programs.miss("more than %d MiB" % (MAX_BYTES // 1024 // 1024))
 
 
 # What the mixed calls are made of: a call, the rule that decides it, where there is one, and what becomes of it. In both {g} is

@@ -24,10 +24,10 @@ WORKERS = (1, 2, 4, 8)
 TURNS = 3
 
 # The most that a run by eight workers may take, by a run by two.
-MOST_DIFFERENCE = 1.05
+MAX_DIFFERENCE = 1.05
 
 # The most processor seconds per second of a run in which one thread has something to do and nobody else has.
-MOST_PROCESSORS = 1.25
+MAX_PROCESSORS = 1.25
 
 # The user as whom a run with few processes is made where this is run by root, for whom the system has no such limit.
 NOBODY = 65534
@@ -109,13 +109,13 @@ def measure_workers(runs):
     for workers, seconds in best.items():
         if seconds > 0.15:
             programs.miss("%d pings by %d workers take more than 0.15 seconds" % (calls, workers))
-    if best[8] > MOST_DIFFERENCE * best[2]:
-        programs.miss("%d pings by 8 workers take more than %.2f times as long as by 2" % (calls, MOST_DIFFERENCE))
+    if best[8] > MAX_DIFFERENCE * best[2]:
+        programs.miss("%d pings by 8 workers take more than %.2f times as long as by 2" % (calls, MAX_DIFFERENCE))
 
 
 def measure_channels(runs):
     """As many calls as a script can have, over as many channels, by two workers."""
-    calls = stepping.MOST_STATEMENTS
+    calls = stepping.MAX_STATEMENTS
     with texts.folder_with(texts.single_policy(["allow ping"]), stepping.pings(8, 8, 4096)) as folder:
         seconds = measured_runs(runs, folder, run_words(2), 2 * calls + 1, stepping.totals(calls, calls))
         size = peak(folder, run_words(2))
@@ -162,8 +162,8 @@ def measure_waiting(runs):
             print("one thread that waits, %d workers: %.2f processor seconds per second, in %.2f seconds" % (workers, processors, seconds))
             if seconds < 1:
                 print("one thread that waits, %d workers: the run took less than a second" % workers)
-            if processors > MOST_PROCESSORS:
-                programs.miss("a run in which one thread waits uses more than %.2f processor seconds per second" % MOST_PROCESSORS)
+            if processors > MAX_PROCESSORS:
+                programs.miss("a run in which one thread waits uses more than %.2f processor seconds per second" % MAX_PROCESSORS)
 
 
 def processes_of(user):

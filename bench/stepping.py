@@ -9,7 +9,7 @@ import programs
 import texts
 
 # Calls and stores of 8 targets with 4 threads of 4,096 statements each.
-MOST_STATEMENTS = 8 * 4 * 4096
+MAX_STATEMENTS = 8 * 4 * 4096
 
 LEAST_STEPS_PER_SECOND = 100_000_000
 LOADS_OF_A_WAIT = 1_000_000
@@ -54,7 +54,7 @@ def pings(targets, channels, calls):
 
 
 def measure_pings(runs):
-    few, many = 8 * 4 * 1000, MOST_STATEMENTS
+    few, many = 8 * 4 * 1000, MAX_STATEMENTS
     measure_replay(runs, "%d pings of 8 targets with 1 channel" % few, pings(8, 1, 1000), None, 2 * few + 1, totals(few, few), 0.3)
     measure_replay(
         runs, "%d pings over 64 channels" % many, pings(8, 8, 4096), None, 2 * many + 1, totals(many, many), 2, 200 * 1024 * 1024)
@@ -67,7 +67,7 @@ def measure_stores(runs):
         stores = ["store %d %d %d %d" % (target, n // 64 % 8, n % 64, n) for n in range(4096)]
         lines += texts.target_lines("t%d" % target, 8, [stores] * 4)
     measure_replay(
-        runs, "%d stores" % MOST_STATEMENTS, lines, None, MOST_STATEMENTS + 1, totals(0, MOST_STATEMENTS), 0.3)
+        runs, "%d stores" % MAX_STATEMENTS, lines, None, MAX_STATEMENTS + 1, totals(0, MAX_STATEMENTS), 0.3)
 
 
 def waits(targets, threads, count):

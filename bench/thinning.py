@@ -14,11 +14,11 @@ LOCAL = ["local", "policy", "script"]
 LEAST_RUNS = 9
 
 # How much longer `local` may take than `replay`.
-MOST_OF_NONE = 1.1
-MOST_OF_HALF = 1.0
+MAX_OF_NONE = 1.1
+MAX_OF_HALF = 1.0
 
 # As many statements as a script can have may take this many times as long as a quarter of them.
-MOST_GROWTH = 5
+MAX_GROWTH = 5
 
 
 def written(folder, name):
@@ -63,8 +63,8 @@ def measure_mixed(runs):
     policy = texts.single_policy(replaying.mixed_rules(), 2)
     directories = replaying.mixed_directories()
     half = [call for pair in zip(sent[::2], denied[::2]) for call in pair]
-    compare(runs, "%d calls, none of them denied" % len(sent), policy, texts.single_target([sent], directories), MOST_OF_NONE)
-    compare(runs, "%d calls, half of them denied" % len(half), policy, texts.single_target([half], directories), MOST_OF_HALF)
+    compare(runs, "%d calls, none of them denied" % len(sent), policy, texts.single_target([sent], directories), MAX_OF_NONE)
+    compare(runs, "%d calls, half of them denied" % len(half), policy, texts.single_target([half], directories), MAX_OF_HALF)
 
 
 def statements(calls, call):
@@ -78,12 +78,12 @@ def statements(calls, call):
 def measure_growth(runs, name, call):
     """As many statements as a script can have, and a quarter of them."""
     seconds = []
-    for calls in (stepping.MOST_STATEMENTS // 128, stepping.MOST_STATEMENTS // 32):
+    for calls in (stepping.MAX_STATEMENTS // 128, stepping.MAX_STATEMENTS // 32):
         with texts.folder_with(texts.single_policy(["allow ping"]), statements(calls, call)) as folder:
             seconds += programs.best_in_turns(max(runs, LEAST_RUNS), folder, [LOCAL])
-    print("local: %d statements, %s, %.3f seconds; a quarter of them %.3f seconds" % (stepping.MOST_STATEMENTS, name, seconds[1], seconds[0]))
-    if seconds[1] > MOST_GROWTH * seconds[0]:
-        programs.miss("local of four times as many statements takes more than %d times as long: %s" % (MOST_GROWTH, name))
+    print("local: %d statements, %s, %.3f seconds; a quarter of them %.3f seconds" % (stepping.MAX_STATEMENTS, name, seconds[1], seconds[0]))
+    if seconds[1] > MAX_GROWTH * seconds[0]:
+        programs.miss("local of four times as many statements takes more than %d times as long: %s" % (MAX_GROWTH, name))
 
 
 def measure(runs):

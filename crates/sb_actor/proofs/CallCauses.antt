@@ -39,8 +39,7 @@ Stands x found (stage.Wait c loads) = Waiting x.clean x.patience (length x.block
 Stands x found (stage.Fetch c words) = Fetched x.clean x.patience (length x.block) c words found
 Stands x found (stage.Free c words) = Fetched x.clean x.patience (length x.block) c words found × (length words ≡ 12)
 Stands x found (stage.Abandon c) = (values : List ℕ) × Waited x.clean x.patience (length x.block) c values found × (get_or x.clean c true ≡ false) × (length values ≡ x.patience)
-Stands x found (stage.Stray loads most) = ⊥
-Stands x found stage.Over = ⊥
+Stands x found _ = ⊥
 
 abbrev pub Cause : ThreadAt → List ℕ → ℕ → CallResult → Type 0
 Cause x found last q = CauseOf x.clean x.patience (length x.block) (mark_at x.thread x.place) found last q
@@ -260,8 +259,7 @@ module _ (script : Script) (x : ThreadAt) where
   each_step some patient (stage.Fetch c words) found n h = fetched_step found c n words h
   each_step some patient (stage.Free c words) found n h = inr (freed_step found c n words h.0 h.1)
   each_step some patient (stage.Abandon c) found n h = inr (result.TimedOut c, refl, h)
-  each_step some patient (stage.Stray loads most) found n h = absurd h
-  each_step some patient stage.Over found n h = absurd h
+  each_step some patient _ found n h = absurd h
 
   -- all steps, from where the thread is
   abbrev Caused : List ℕ → ℕ → StmtResult → Type 0

@@ -59,10 +59,9 @@ module _ (targets : SoundTargets) (statements : SoundStatements) (script : Scrip
       let c = calls_end script at found last r (calls_begin targets script start i tag args runs e) h in
       (c.0, c.1, subst (λ (n : ℕ). CauseOf (clean_channels script t) script.patience n (mark_at k i) found last c.0) (ap length (ap (block_of (mark_at k i)) e)) c.2)
   caused (statement.Store u word value) e found last r h = stray (statement.Store u word value) (λ n. result.Stored) e refl (λ n. refl) found last r h
-  caused (statement.Exchange u word from to) e found last r h = stray (statement.Exchange u word from to) (λ n. result.Found n) e refl (λ n. refl) found last r h
-  caused (statement.Load u word) e found last r h = stray (statement.Load u word) (λ n. result.Found n) e refl (λ n. refl) found last r h
   caused (statement.Wait u word value most) e found last r h =
       waits_end script at value most found last r (waits_begin statements script start i u word value most runs e) h
+  caused stage e found last r h = stray stage (λ n. result.Found n) e refl (λ n. refl) found last r h
 
   -- there is one
   listed : (o : Option Statement) → statement_at script t k i ≡ o → (found : List ℕ) (last : ℕ) (r : StmtResult) → Ends script at found last r

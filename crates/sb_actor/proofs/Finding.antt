@@ -25,22 +25,11 @@ use Rattle.sb_statements.specs.declared.statements.Statement.TheVariants as stat
 by_statement : (script : Script) (x : ThreadAt) (loads most : ℕ) (o : Option Statement) (seen : Observation)
     → (stray_row script x loads most o).next seen ≡ (stray_row script x loads most o).next (Value (value_in seen))
 by_statement script x loads most (Some (statement.Call tag args)) seen = refl
-by_statement script x loads most (Some (statement.Store t w y)) seen = refl
-by_statement script x loads most (Some (statement.Exchange t w from to)) seen = refl
-by_statement script x loads most (Some (statement.Load t w)) seen = refl
-by_statement script x loads most (Some (statement.Wait t w y k)) seen = refl
-by_statement script x loads most None seen = refl
+by_statement script x loads most _ seen = refl
 
 by_stage : (script : Script) (x : ThreadAt) (s : ThreadStage) (seen : Observation) → (thread_row script x s).next seen ≡ (thread_row script x s).next (Value (value_in seen))
-by_stage script x (stage.Try c rounds all_abandoned) seen = refl
-by_stage script x (stage.Fill c i) seen = refl
-by_stage script x (stage.Send c) seen = refl
-by_stage script x (stage.Wait c loads) seen = refl
-by_stage script x (stage.Fetch c words) seen = refl
-by_stage script x (stage.Free c words) seen = refl
-by_stage script x (stage.Abandon c) seen = refl
 by_stage script x (stage.Stray loads most) seen = by_statement script x loads most (statement_at script x.target x.thread x.place) seen
-by_stage script x stage.Over seen = refl
+by_stage script x _ seen = refl
 
 pub values_tell : ValuesTell
 values_tell script x seen = by_stage script x x.stage seen
@@ -61,14 +50,13 @@ module _ (script : Script) (x : ThreadAt) where
   either false p q h k = k
 
   by_word : (loads most : ℕ) (o : Option Statement) (n : ℕ) → Next ((stray_row script x loads most o).next (Value n))
-  by_word loads most (Some (statement.Call tag args)) n = on x.stage
   by_word loads most (Some (statement.Store t w y)) n = over ended.Stored
   by_word loads most (Some (statement.Exchange t w from to)) n = over (ended.Found n)
   by_word loads most (Some (statement.Load t w)) n = over (ended.Found n)
   by_word loads most (Some (statement.Wait t w y k)) n =
       either (eqb n y) (ends script x (ended.Met (loads + 1))) _ (over (ended.Met (loads + 1)))
       (either (eqb (loads + 1) most) (ends script x (ended.Unmet most)) (goes_on x (stage.Stray (loads + 1) most)) (over (ended.Unmet most)) (on (stage.Stray (loads + 1) most)))
-  by_word loads most None n = on x.stage
+  by_word loads most _ n = on x.stage
 
   round : (rounds : ℕ) (all_abandoned : Bool) → Next (after_round script x rounds all_abandoned)
   round rounds all_abandoned =

@@ -22,11 +22,7 @@ not_clean (m ∷ ms) (suc c) e = not_clean ms c e
 
 starts_so : (clean : List Bool) (o : Option Statement) → GivesUp clean (first_stage o)
 starts_so clean (Some (statement.Call tag args)) = tt
-starts_so clean (Some (statement.Store t w x)) = tt
-starts_so clean (Some (statement.Exchange t w from to)) = tt
-starts_so clean (Some (statement.Load t w)) = tt
-starts_so clean (Some (statement.Wait t w x most)) = tt
-starts_so clean None = tt
+starts_so clean _ = tt
 
 module _ (script : Script) (x : ThreadAt) where
   abbrev Kept : ThreadNext → Type 0
@@ -69,14 +65,13 @@ module _ (script : Script) (x : ThreadAt) where
       by_test false = tt
 
   stray : (loads most : ℕ) (o : Option Statement) (seen : Observation) → GivesUp x.clean x.stage → Kept ((stray_row script x loads most o).next seen)
-  stray loads most (Some (statement.Call tag args)) seen h = h
   stray loads most (Some (statement.Store t w y)) seen h = over ended.Stored
   stray loads most (Some (statement.Exchange t w from to)) seen h = over (ended.Found (value_in seen))
   stray loads most (Some (statement.Load t w)) seen h = over (ended.Found (value_in seen))
   stray loads most (Some (statement.Wait t w y k)) seen h =
       either (eqb (value_in seen) y) (ends script x (ended.Met (loads + 1))) _ (over (ended.Met (loads + 1)))
       (either (eqb (loads + 1) most) (ends script x (ended.Unmet most)) (goes_on x (stage.Stray (loads + 1) most)) (over (ended.Unmet most)) tt)
-  stray loads most None seen h = h
+  stray loads most _ seen h = h
 
   kept : (s : ThreadStage) (seen : Observation) → GivesUp x.clean x.stage → Kept ((thread_row script x s).next seen)
   kept (stage.Try c rounds all_abandoned) seen h =

@@ -121,10 +121,7 @@ sound_at script t k i h law =
 
 encoded : (targets : List TargetScript) (s : Statement) → is_statement targets s ≡ true → statement_has_units s ≡ true → is_encoded s ≡ true
 encoded targets (Call tag args) h u = and_from (encodes tag args) (list_all has_units args) h u
-encoded targets (Store target word value) h u = refl
-encoded targets (Exchange target word from to) h u = refl
-encoded targets (Load target word) h u = refl
-encoded targets (Wait target word value most) h u = refl
+encoded targets _ h u = refl
 
 -- a sound script whose strings are made of units
 module _ (script : Script) (t k i : ℕ) (h : is_sound script ≡ true) (u : script_has_units script ≡ true) where

@@ -118,7 +118,7 @@ module _ (clean : List Bool) (words : List ℕ) (worker : WorkerView) (threads :
       same = ap (set words w) stays ∙ set-get_or words w 0
 
   module _ (k : ℕ) (h : List Had) where
-    -- the rule after a step from phase p
+    -- the rule after a step from place p
     abbrev After : ThreadPlace → Deed → Bool → Type 0
     After p d b = Rule clean (set words w (wrote d b (get_or words w 0))) worker (set threads i (thread_result (tv k clean p h) d b (get_or words w 0)))
 
@@ -373,7 +373,7 @@ module _ (clean : List Bool) (words : List ℕ) (worker : WorkerView) (threads :
             let same : c ≡ x = some-injective c x (o.only x cl (sym (ap owner (upd_else r.mids c idle x ne)) ∙ own)) in
             absurd (ne (sym same))
 
-    -- by phase and deed
+    -- by place and deed
     pub thread_steps : (p : ThreadPlace) (d : Deed) → get_elem? threads i ≡ some (tv k clean p h) → ThreadMay (tv k clean p h) p w d → After p d (met d (get_or words w 0))
     thread_steps (Try c f) take_it at_i may = take_step c f at_i may.0 may.1 (met take_it (get_or words w 0)) refl
     thread_steps (Fill c ws) (fill x) at_i may = fill_step x c ws at_i may.0 may.1 may.2

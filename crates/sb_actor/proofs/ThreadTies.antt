@@ -25,11 +25,7 @@ use Rattle.sb_actor.proofs.Ties.{some_same, take_whole, take_length}
 -- each statement begins outside a call
 pub outside : (block : List ℕ) (o : Option Statement) → thread_place_of block (first_stage o) ≡ no_call
 outside block (Some (statement.Call tag args)) = refl
-outside block (Some (statement.Store t w x)) = refl
-outside block (Some (statement.Exchange t w from to)) = refl
-outside block (Some (statement.Load t w)) = refl
-outside block (Some (statement.Wait t w x most)) = refl
-outside block None = refl
+outside block _ = refl
 
 module _ (script : Script) (v : ThreadView) (x : ThreadAt) (number : v.number ≡ x.thread) (marks : v.clean ≡ x.clean) (n : ℕ) (seen : Observation) where
   -- the view shows the thread's stage, by its place alone
@@ -169,8 +165,7 @@ module _ (script : Script) (v : ThreadView) (x : ThreadAt) (number : v.number �
         writes = refl;
         holds = over abandon (Wait c x.block) (ended.Call (result.TimedOut c)) e refl;
       }
-  follows (stage.Stray loads most) d e h b u q tell = absurd (cc)
-  follows stage.Over d e h b u q tell = absurd (cc)
+  follows _ d e h b u q tell = absurd (cc)
 
 pub thread_follows : ThreadFollows
 thread_follows script v x d n seen h s b u q tell =

@@ -144,9 +144,6 @@ module _ (v : WorkerView) (t k ch : ℕ) (l : length v.clean ≡ k) (c : v.chann
         writes = refl;
         holds = subst (λ z. HoldsWorker (worker_view v copy n) (at_stage (W (stage.Copy x y ws)) (after_copy x y (ws ++ z ∷ [])))) (sym tell) (stays copy (Copy x y ws) (after_copy x y (ws ++ n ∷ [])) refl e (copies x y ws));
       }
-  follows (stage.Take x) d e h q tell = absurd (cc)
-  follows (stage.Answer x) d e h q tell = absurd (cc)
-  follows (stage.Give x r) d e h q tell = absurd (cc)
   follows (stage.Reply x r zero) d e h q tell =
       subst (λ z. Follows v (W (stage.Reply x r 0)) z n seen) (some_same (answer (get_or r 0 0)) d q)
       record {
@@ -172,6 +169,7 @@ module _ (v : WorkerView) (t k ch : ℕ) (l : length v.clean ≡ k) (c : v.chann
         writes = refl;
         holds = moves acknowledge (Reply x r) refl e refl;
       }
+  follows _ d e h q tell = absurd (cc)
 
 pub worker_follows : WorkerFollows
 worker_follows v w d n seen h i s q tell = follows v w.target w.channels w.channel h.channels h.channel i n seen w.stage d h.place s q tell

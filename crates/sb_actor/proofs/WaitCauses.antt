@@ -31,9 +31,7 @@ module _ (script : Script) (x : ThreadAt) (value most target : ℕ) (word : Word
   abbrev cause : (loads : ℕ) (found : List ℕ) (last : ℕ) (r : StmtResult) → Type 0
   cause loads found last (ended.Met k) = (list_all (is_not value) found ≡ true) × (last ≡ value) × (k ≡ loads + length found + 1) × (k ≤ most)
   cause loads found last (ended.Unmet k) = (list_all (is_not value) found ≡ true) × (last ≢ value) × (k ≡ most) × (loads + length found + 1 ≡ most)
-  cause loads found last (ended.Call q) = ⊥
-  cause loads found last ended.Stored = ⊥
-  cause loads found last (ended.Found n) = ⊥
+  cause loads found last _ = ⊥
 
   -- the last load
   by_last : (loads n : ℕ) → loads < most → (met last : Bool) → eqb n value ≡ met → eqb (loads + 1) most ≡ last → (r : StmtResult) → (chosen loads met last).ended ≡ Some r → cause loads [] n r
@@ -54,9 +52,7 @@ module _ (script : Script) (x : ThreadAt) (value most target : ℕ) (word : Word
   more loads n found last (ended.Unmet k) e h =
       let is = h.3 in
       (and_from (is_not value n) (list_all (is_not value) found) (not_from_false (eqb n value) e) h.0, h.1, h.2, omega (arith, is))
-  more loads n found last (ended.Call q) e h = h
-  more loads n found last ended.Stored e h = h
-  more loads n found last (ended.Found m) e h = h
+  more loads n found last _ e h = h
 
   abbrev Leaves : ThreadNext → List ℕ → ℕ → StmtResult → Type 0
   Leaves z found last r = (z.ended ≡ None) × Ends script z.thread found last r
@@ -89,9 +85,7 @@ module _ (script : Script) (x : ThreadAt) (value most target : ℕ) (word : Word
       let is = h.3 in
       let f = eq-eqb (loads + 1) most (omega (arith, is)) in
       rw e (rw f (ap (λ (z : ℕ). Some (ended.Unmet z)) (sym h.2)))
-  last_met loads n (ended.Call q) l h = absurd h
-  last_met loads n ended.Stored l h = absurd h
-  last_met loads n (ended.Found m) l h = absurd h
+  last_met loads n _ l h = absurd h
 
   -- what is known of a cause with a load in front
   record Less (loads n : ℕ) (found : List ℕ) (last : ℕ) (r : StmtResult) : Type 0 where
@@ -109,9 +103,7 @@ module _ (script : Script) (x : ThreadAt) (value most target : ℕ) (word : Word
       let parts = and_parts (is_not value n) (list_all (is_not value) found) h.0 in
       let is = h.3 in
       record { other = not-true (eqb n value) parts.0; few = omega (arith, is); rest = (parts.1, h.1, h.2, omega (arith, is)) }
-  less loads n found last (ended.Call q) h = absurd h
-  less loads n found last ended.Stored h = absurd h
-  less loads n found last (ended.Found m) h = absurd h
+  less loads n found last _ h = absurd h
 
   backward : (loads : ℕ) → loads < most → (found : List ℕ) (last : ℕ) (r : StmtResult) → cause loads found last r → Ends script (after loads) found last r
   backward loads l [] last r h = subst (λ z. z.ended ≡ Some r) (sym (next loads last)) (last_met loads last r l h)
@@ -127,16 +119,12 @@ module _ (script : Script) (x : ThreadAt) (value most target : ℕ) (word : Word
   to_cause : (found : List ℕ) (last : ℕ) (r : StmtResult) → cause 0 found last r → CauseOfWait value most found last r
   to_cause found last (ended.Met k) h = let is = h.2 in (h.0, h.1, omega (arith, is), h.3)
   to_cause found last (ended.Unmet k) h = let is = h.3 in (h.0, h.1, h.2, omega (arith, is))
-  to_cause found last (ended.Call q) h = h
-  to_cause found last ended.Stored h = h
-  to_cause found last (ended.Found m) h = h
+  to_cause found last _ h = h
 
   of_cause : (found : List ℕ) (last : ℕ) (r : StmtResult) → CauseOfWait value most found last r → cause 0 found last r
   of_cause found last (ended.Met k) h = let is = h.2 in (h.0, h.1, omega (arith, is), h.3)
   of_cause found last (ended.Unmet k) h = let is = h.3 in (h.0, h.1, h.2, omega (arith, is))
-  of_cause found last (ended.Call q) h = h
-  of_cause found last ended.Stored h = h
-  of_cause found last (ended.Found m) h = h
+  of_cause found last _ h = h
 
 -- a thread whose stage is known
 same_stage : (x : ThreadAt) (s : ThreadStage) → x.stage ≡ s → record x { stage = s } ≡ x

@@ -16,16 +16,12 @@ observation (observed.Turn got) = seen.Turn got
 -- the value that a step found
 abbrev pub value_in : Observation → ℕ
 value_in (seen.Value n) = n
-value_in seen.Done = 0
-value_in (seen.Turn got) = 0
-value_in (seen.Answered reply) = 0
+value_in _ = 0
 
 -- whether a step took the turn
 abbrev pub turn_in : Observation → Bool
 turn_in (seen.Turn got) = got
-turn_in (seen.Value n) = false
-turn_in seen.Done = false
-turn_in (seen.Answered reply) = false
+turn_in _ = false
 
 abbrev pub no_reply : Reply
 no_reply = record { mark = 0; outcome = 0; status = 0; handle = 0; ext = [] }
@@ -33,9 +29,7 @@ no_reply = record { mark = 0; outcome = 0; status = 0; handle = 0; ext = [] }
 -- the reply that the book gave
 abbrev pub reply_in : Observation → Reply
 reply_in (seen.Answered reply) = reply
-reply_in (seen.Value n) = no_reply
-reply_in seen.Done = no_reply
-reply_in (seen.Turn got) = no_reply
+reply_in _ = no_reply
 
 -- the state of a channel
 abbrev pub state_word : ℕ → Word

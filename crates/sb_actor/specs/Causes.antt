@@ -139,9 +139,7 @@ is_not value n = not (n == value)
 abbrev pub CauseOfWait : ℕ → ℕ → List ℕ → ℕ → StmtResult → Type 0
 CauseOfWait value most found last (result.Met loads) = (list_all (is_not value) found ≡ true) × (last ≡ value) × (loads ≡ length found + 1) × (loads ≤ most)
 CauseOfWait value most found last (result.Unmet loads) = (list_all (is_not value) found ≡ true) × (last ≢ value) × (loads ≡ most) × (length found + 1 ≡ most)
-CauseOfWait value most found last (result.Call r) = ⊥
-CauseOfWait value most found last result.Stored = ⊥
-CauseOfWait value most found last (result.Found n) = ⊥
+CauseOfWait value most found last _ = ⊥
 
 -- a thread at the beginning of a wait
 pub record BeginsWait (script : Script) (x : ThreadAt) (value most : ℕ) : Type 0 where

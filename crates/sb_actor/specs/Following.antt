@@ -16,30 +16,19 @@ abbrev pub act_word : Act → ℕ
 act_word (act.Load t word) = at word.channel word.at
 act_word (act.Store t word value) = at word.channel word.at
 act_word (act.Exchange t word from to) = at word.channel word.at
-act_word act.Take = 0
-act_word act.Answer = 0
-act_word act.Give = 0
-act_word act.Idle = 0
+act_word _ = 0
 
 -- the word after a step that found n there
 abbrev pub act_wrote : Act → ℕ → ℕ
-act_wrote (act.Load t word) n = n
 act_wrote (act.Store t word value) n = value
 act_wrote (act.Exchange t word from to) n = if n == from then to else n
-act_wrote act.Take n = n
-act_wrote act.Answer n = n
-act_wrote act.Give n = n
-act_wrote act.Idle n = n
+act_wrote _ n = n
 
 -- a load and an exchange give what they found
 abbrev pub Tells : Act → ℕ → Observation → Type 0
 Tells (act.Load t word) n seen = value_in seen ≡ n
-Tells (act.Store t word value) n seen = Unit {0}
 Tells (act.Exchange t word from to) n seen = value_in seen ≡ n
-Tells act.Take n seen = Unit {0}
-Tells act.Answer n seen = Unit {0}
-Tells act.Give n seen = Unit {0}
-Tells act.Idle n seen = Unit {0}
+Tells _ n seen = Unit {0}
 
 -- a step that is of a kind and found n: the worker may make it, the word is written as that kind writes it, and the view after it shows
 -- the stage to which the worker then comes

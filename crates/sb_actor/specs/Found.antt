@@ -13,10 +13,7 @@ use Rattle.sb_actor.specs.Places.{statement_at}
 -- a call encodes, and its strings are made of units
 abbrev pub is_encoded : Statement → Bool
 is_encoded (Call tag args) = encodes tag args && list_all has_units args
-is_encoded (Store target word value) = true
-is_encoded (Exchange target word from to) = true
-is_encoded (Load target word) = true
-is_encoded (Wait target word value most) = true
+is_encoded _ = true
 
 -- the statement at a place of a thread of a target, among these targets
 pub record IsFound (targets : List TargetScript) (target thread place : ℕ) (s : Statement) : Type 0 where

@@ -12,14 +12,9 @@ pub mod Places
 pub mod Ranges
 pub mod Rule
 pub mod Views
-pub mod ThreadFields
 pub mod ThreadFollowing
 pub mod ThreadStages
 pub mod ThreadTable
 pub mod Ties
-pub mod Waiting
-pub mod WordMoves
-pub mod WordSteps
-pub mod WorkerFields
 pub mod WorkerStages
 pub mod WorkerTable

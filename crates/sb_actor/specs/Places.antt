@@ -34,20 +34,14 @@ mark_at thread place = (thread + 1) * 65536 + place
 -- the block of a call with this mark; other statements have none
 abbrev pub block_of : ℕ → Option Statement → List ℕ
 block_of mark (Some (Call tag args)) = block tag args mark
-block_of mark (Some (Store target word value)) = []
-block_of mark (Some (Exchange target word from to)) = []
-block_of mark (Some (Load target word)) = []
-block_of mark (Some (Wait target word value most)) = []
-block_of mark None = []
+block_of mark _ = []
 
 -- the stage of a thread at the beginning of a statement
 abbrev pub first_stage : Option Statement → ThreadStage
 first_stage (Some (Call tag args)) = Try 0 0 true
-first_stage (Some (Store target word value)) = Stray 0 1
-first_stage (Some (Exchange target word from to)) = Stray 0 1
-first_stage (Some (Load target word)) = Stray 0 1
 first_stage (Some (Wait target word value most)) = Stray 0 most
 first_stage None = Over
+first_stage _ = Stray 0 1
 
 -- the thread at the beginning of the statement at a place
 abbrev pub begins : Script → ThreadAt → ℕ → ThreadAt
@@ -84,36 +78,18 @@ is_finished script x = nat_le (length (statements_of script x.target x.thread)) 
 
 -- the same by the stage
 abbrev pub is_over : ThreadStage → Bool
-is_over (stage.Try c rounds all_abandoned) = false
-is_over (stage.Fill c i) = false
-is_over (stage.Send c) = false
-is_over (stage.Wait c loads) = false
-is_over (stage.Fetch c words) = false
-is_over (stage.Free c words) = false
-is_over (stage.Abandon c) = false
-is_over (stage.Stray loads most) = false
 is_over stage.Over = true
+is_over _ = false
 
 -- the statement is a call
 abbrev pub is_call : Option Statement → Bool
 is_call (Some (Call tag args)) = true
-is_call (Some (Store target word value)) = false
-is_call (Some (Exchange target word from to)) = false
-is_call (Some (Load target word)) = false
-is_call (Some (Wait target word value most)) = false
-is_call None = false
+is_call _ = false
 
 -- the statement that a thread makes by a step on a word that the statement names; in a call, and after the last statement, none
 abbrev pub direct_of : ThreadStage → Option Statement → Option Statement
 direct_of (stage.Stray loads most) statement = statement
-direct_of (stage.Try c rounds all_abandoned) statement = None
-direct_of (stage.Fill c i) statement = None
-direct_of (stage.Send c) statement = None
-direct_of (stage.Wait c loads) statement = None
-direct_of (stage.Fetch c words) statement = None
-direct_of (stage.Free c words) statement = None
-direct_of (stage.Abandon c) statement = None
-direct_of stage.Over statement = None
+direct_of _ statement = None
 
 abbrev pub direct_at : Script → ThreadAt → Option Statement
 direct_at script x = direct_of x.stage (statement_at script x.target x.thread x.place)

@@ -12,8 +12,6 @@ pub record IsReplyTo (taken : Copied) (reply : List ℕ) : Type 0 where
   pub mark : slice_index reply 0 ≡ mark_of taken
 
 abbrev pub IsSoundStage : WorkerStage → Type 0
-IsSoundStage Look = Unit {0}
-IsSoundStage Count = Unit {0}
 IsSoundStage (End count) = count ≤ 9
 IsSoundStage (Copy count end words) = (count ≤ 9) × (16 + count ≤ end) × (end ≤ 64) × (length words < end)
 IsSoundStage (Take taken) = is_copy taken ≡ true
@@ -21,6 +19,7 @@ IsSoundStage (Answer taken) = is_copy taken ≡ true
 IsSoundStage (Give taken reply) = IsReplyTo taken reply
 IsSoundStage (Reply taken reply at) = (at < 12) × IsReplyTo taken reply
 IsSoundStage (Ack taken reply) = IsReplyTo taken reply
+IsSoundStage _ = Unit {0}
 
 -- and of a thread with this patience and this block, on this many channels: it is at one of them, its rounds and loads are fewer than the
 -- patience, and what it fills and fetches is within the block and the reply

@@ -100,25 +100,18 @@ Agrees k (Fetch c block words) m = (reply : List ℕ) × (m ≡ acked k block re
 -- if a thread found nothing but 5 in this round, no channel below is clean
 abbrev pub AllAbandoned : List Bool → ThreadPlace → Type 0
 AllAbandoned clean (Try c all_abandoned) = all_abandoned ≡ true → (d : ℕ) → d < c → is_clean clean d ≡ false
-AllAbandoned clean (Fill c words) = Unit {0}
-AllAbandoned clean (Wait c block) = Unit {0}
-AllAbandoned clean (Fetch c block words) = Unit {0}
+AllAbandoned clean _ = Unit {0}
 
 -- the block that a thread handed over has its number, also on a channel that is not clean
 abbrev pub Bears : ℕ → ThreadPlace → Type 0
-Bears k (Try c all_abandoned) = Unit {0}
-Bears k (Fill c words) = Unit {0}
 Bears k (Wait c block) = IsBlock k block
 Bears k (Fetch c block words) = IsBlock k block
+Bears k _ = Unit {0}
 
 -- the reply that the worker stores has the mark of its copy
 abbrev pub Replies : WorkerPlace → Type 0
-Replies Look = Unit {0}
-Replies Count = Unit {0}
-Replies (End count) = Unit {0}
-Replies (Copy count end words) = Unit {0}
-Replies (Whole taken) = Unit {0}
 Replies (Reply taken reply) = (0 < length reply) × (length reply ≤ 12) × (slice_index reply 0 ≡ mark_of taken)
+Replies _ = Unit {0}
 
 -- of thread i, by what the rule knows of the channels and of the calls served
 module _ (clean : List Bool) (mids : ℕ → Mid) (served : List Served) where

@@ -13,15 +13,8 @@ use Rattle.sb_statements.specs.declared.scripts.Script.{Script}
 
 -- a channel that the thread gives up is not clean
 abbrev pub GivesUp : List Bool → ThreadStage → Type 0
-GivesUp clean (Try c rounds all_abandoned) = Unit {0}
-GivesUp clean (Fill c i) = Unit {0}
-GivesUp clean (Send c) = Unit {0}
-GivesUp clean (Wait c loads) = Unit {0}
-GivesUp clean (Fetch c words) = Unit {0}
-GivesUp clean (Free c words) = Unit {0}
 GivesUp clean (Abandon c) = is_clean clean c ≡ false
-GivesUp clean (Stray loads most) = Unit {0}
-GivesUp clean Over = Unit {0}
+GivesUp clean _ = Unit {0}
 
 -- a step of a kind that found n, as for the worker
 pub record ThreadGoes (script : Script) (v : ThreadView) (x : ThreadAt) (d : Deed) (n : ℕ) (seen : Observation) : Type 0 where

@@ -1,5 +1,8 @@
 -- The stages of a thread.
-use Rattle.std.specs.Prelude.{ℕ, Bool, List}
+use Rattle.std.specs.Prelude.{ℕ, Bool, true, nat_lt, List, take}
+use Rattle.sb_actor.specs.declared.stages.ThreadStage.{ThreadStage as StageOf}
+use Rattle.sb_actor.specs.declared.stages.ThreadStage.TheVariants as code
+use Rattle.sb_statements.specs.Limits.{most_statements}
 
 -- named by the next step: in a call the channel with what belongs to the step (rounds counted and whether this round found nothing
 -- but 5, words filled, loads counted, words fetched); at a store, exchange, load or wait statement the loads made and the most; or
@@ -25,3 +28,20 @@ pub record ThreadAt : Type 0 where
   pub place : ℕ
   pub block : List ℕ
   pub stage : ThreadStage
+
+-- the stage of a thread that has these words of a reply
+abbrev pub thread_stage : StageOf → List ℕ → ThreadStage
+thread_stage (code.Try c rounds all_abandoned) reply = Try c rounds all_abandoned
+thread_stage (code.Fill c i) reply = Fill c i
+thread_stage (code.Send c) reply = Send c
+thread_stage (code.Wait c loads) reply = Wait c loads
+thread_stage (code.Fetch c i) reply = Fetch c (take i reply)
+thread_stage (code.Free c) reply = Free c reply
+thread_stage (code.Abandon c) reply = Abandon c
+thread_stage (code.Stray loads most) reply = Stray loads most
+thread_stage code.Over reply = Over
+
+-- a thread that is not finished is at one of at most 4,096 places
+abbrev pub is_placed : StageOf → ℕ → Bool
+is_placed code.Over place = true
+is_placed _ place = nat_lt place most_statements

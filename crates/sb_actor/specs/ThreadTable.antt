@@ -1,4 +1,4 @@
--- A thread, step by step: a table of phase, step and next phase. One row is one atomic step. When a statement ends the next one
+-- A thread, step by step: a table of stage, step and next stage. One row is one atomic step. When a statement ends the next one
 -- begins at once, without a step.
 use Rattle.std.specs.Prelude.{ℕ, ◌+◌, Bool, true, ◌&&◌, ◌==◌, List, [], ◌∷◌, ◌++◌, length, slice_index, slice_index_or, Option, None, Some, if◌then◌else◌}
 use Rattle.std.specs.List.{list_any}
@@ -120,12 +120,11 @@ stray_row script x loads most (Some (statement.Store t w v)) = row (act.Store t 
 stray_row script x loads most (Some (statement.Exchange t w from to)) = row (act.Exchange t w from to) (λ s. ends script x (Found (value_in s)))
 stray_row script x loads most (Some (statement.Load t w)) = row (act.Load t w) (λ s. ends script x (Found (value_in s)))
 stray_row script x loads most (Some (statement.Wait t w v n)) = row (act.Load t w) (λ s. after_stray_load script x loads most (value_in s == v))
-stray_row script x loads most (Some (statement.Call tag args)) = row act.Idle (λ s. stays x)
-stray_row script x loads most None = row act.Idle (λ s. stays x)
+stray_row script x loads most _ = row act.Idle (λ s. stays x)
 
 -- the table. A finished thread's step does nothing
 abbrev pub thread_row : Script → ThreadAt → ThreadStage → ThreadRow
--- at a phase = the step, and what it leads to by what it found
+-- at a stage = the step, and what it leads to by what it found
 thread_row script x (Try c rounds all_abandoned) = row (exchange_state x c free busy) (λ s. after_try script x c rounds all_abandoned (value_in s))
 thread_row script x (Fill c i) = row (store_block x c i (slice_index x.block i)) (λ s. goes_on x (after_fill x c i))
 thread_row script x (Send c) = row (exchange_state x c busy ready) (λ s. after_send script x c (value_in s))

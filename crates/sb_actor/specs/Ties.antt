@@ -25,11 +25,9 @@ worker_deed worker.Look = Some look
 worker_deed worker.Count = Some load_count
 worker_deed (worker.End c) = Some load_end
 worker_deed (worker.Copy c e words) = Some copy
-worker_deed (worker.Take taken) = None
-worker_deed (worker.Answer taken) = None
-worker_deed (worker.Give taken reply) = None
 worker_deed (worker.Reply taken reply at) = Some (answer (slice_index reply at))
 worker_deed (worker.Ack taken reply) = Some acknowledge
+worker_deed _ = None
 
 -- the worker's view shows the worker's stage
 pub record HoldsWorker (v : WorkerView) (w : WorkerAt) : Type 0 where
@@ -46,8 +44,7 @@ thread_place_of block (thread.Wait c loads) = Wait c block
 thread_place_of block (thread.Fetch c words) = Fetch c block words
 thread_place_of block (thread.Free c words) = Fetch c block words
 thread_place_of block (thread.Abandon c) = Wait c block
-thread_place_of block (thread.Stray loads most) = no_call
-thread_place_of block thread.Over = no_call
+thread_place_of block _ = no_call
 
 -- the kind of a thread's step in a call
 abbrev pub thread_deed : List ℕ → ThreadStage → Option Deed
@@ -58,8 +55,7 @@ thread_deed block (thread.Wait c loads) = Some wait
 thread_deed block (thread.Fetch c words) = Some fetch
 thread_deed block (thread.Free c words) = Some free
 thread_deed block (thread.Abandon c) = Some abandon
-thread_deed block (thread.Stray loads most) = None
-thread_deed block thread.Over = None
+thread_deed block _ = None
 
 -- the thread's view shows the thread's stage
 pub record HoldsThread (v : ThreadView) (x : ThreadAt) : Type 0 where

@@ -1,4 +1,4 @@
--- The worker of a target, step by step: a table of phase, step and next phase. One row is one atomic step.
+-- The worker of a target, step by step: a table of stage, step and next stage. One row is one atomic step.
 use Rattle.std.specs.Prelude.{◌≡◌, ℕ, ◌+◌, ◌%◌, Bool, true, false, ◌==◌, nat_lt, List, [], ◌∷◌, ◌++◌, length, slice_index, Option, None, Some, if◌then◌else◌}
 use Rattle.sb_block.specs.Copies.{Copied, copied, is_end, mark_of}
 use Rattle.sb_block.specs.Packing.{offset_of}
@@ -64,7 +64,7 @@ after_reply taken reply at = if at == 11 then Ack taken reply else Reply taken r
 
 -- the table. After Ack the worker looks on, also if the exchange found another value, which then stays
 abbrev pub worker_row : WorkerAt → WorkerStage → WorkerRow
--- at a phase = the step, and the worker after it by what the step found
+-- at a stage = the step, and the worker after it by what the step found
 worker_row w Look = row (load_state w) (λ s. after_look w (value_in s))
 worker_row w Count = row (load_block w 2) (λ s. at_stage w (after_count (value_in s)))
 worker_row w (End count) = row (load_block w (15 + count)) (λ s. at_stage w (after_end count (offset_of (value_in s))))
@@ -90,24 +90,12 @@ IsAnswer _ seen = Unit {0}
 
 -- the copy, from its end until the turn is given back
 abbrev pub taken_in : WorkerStage → Option Copied
-taken_in Look = None
-taken_in Count = None
-taken_in (End count) = None
-taken_in (Copy count end words) = None
 taken_in (Take taken) = Some taken
 taken_in (Answer taken) = Some taken
 taken_in (Give taken reply) = Some taken
-taken_in (Reply taken reply at) = None
-taken_in (Ack taken reply) = None
+taken_in _ = None
 
 -- the next step is a look
 abbrev pub is_looking : WorkerStage → Bool
 is_looking Look = true
-is_looking Count = false
-is_looking (End count) = false
-is_looking (Copy count end words) = false
-is_looking (Take taken) = false
-is_looking (Answer taken) = false
-is_looking (Give taken reply) = false
-is_looking (Reply taken reply at) = false
-is_looking (Ack taken reply) = false
+is_looking _ = false

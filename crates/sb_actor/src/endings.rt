@@ -1,10 +1,6 @@
 // How a statement ends.
-ghost use Rattle.std.specs.Prelude.{◌≡◌};
-ghost use Rattle.sb_actor.specs.Endings.{result_of};
 
-use sb_statements::{CallResult, StmtResult};
-
-/// How a statement ends, except a call that fetched its reply. It fits in three words, so that a step hands on no whole result.
+/// How a statement ends. Its result is made where it is kept (`ThreadState::end`), so that no step hands on a whole result.
 #[derive(Clone, Copy)]
 pub(crate) enum Ending {
     /// The call got no channel.
@@ -13,6 +9,8 @@ pub(crate) enum Ending {
     SendLost { channel: u32, found: u64 },
     /// The call waited no more.
     TimedOut { channel: u32 },
+    /// The reply was fetched.
+    Replied { channel: u32 },
     /// The value was stored.
     Stored,
     /// The exchange or the load found this value.
@@ -21,23 +19,4 @@ pub(crate) enum Ending {
     Met { loads: u32 },
     /// None of these loads found the value.
     Unmet { loads: u32 },
-}
-
-impl Ending {
-    /// The result of the statement.
-    pub(crate) fn result(self) -> StmtResult
-        ensures { result ≡ result_of self }
-    {
-        match self {
-            Ending::NoChannel => StmtResult::Call(CallResult::NoChannel),
-            Ending::SendLost { channel, found } => {
-                StmtResult::Call(CallResult::SendLost { channel, found })
-            }
-            Ending::TimedOut { channel } => StmtResult::Call(CallResult::TimedOut { channel }),
-            Ending::Stored => StmtResult::Stored,
-            Ending::Found(value) => StmtResult::Found(value),
-            Ending::Met { loads } => StmtResult::Met { loads },
-            Ending::Unmet { loads } => StmtResult::Unmet { loads },
-        }
-    }
 }

@@ -1,7 +1,7 @@
 // Workers and threads, one atomic step at a time: the step that each makes next, and how it goes on by what that step found.
-// Nothing here touches a word. The outline follows Chromium's `sandbox/win`: a client takes a free channel of shared memory, fills
-// it and waits, and the server replies and marks the channel as acknowledged (`sharedmem_ipc_client`, `sharedmem_ipc_server`). Each
-// single step of the hand-over is this project's own.
+// Nothing here holds a word: an actor makes its step on the `Memory` that its caller gives. The outline follows Chromium's
+// `sandbox/win`: a client takes a free channel of shared memory, fills it and waits, and the server replies and marks the channel as
+// acknowledged (`sharedmem_ipc_client`, `sharedmem_ipc_server`). Each single step of the hand-over is this project's own.
 //
 // What a worker and a thread do is stated as two tables, one row a line: `specs/WorkerTable.antt` and `specs/ThreadTable.antt`.
 //
@@ -13,8 +13,9 @@
 mod acts;
 mod endings;
 mod laws;
-mod phases;
+mod memory;
 mod places;
+mod stages;
 mod threads;
 mod workers;
 
@@ -24,6 +25,7 @@ pub use laws::{
     results_have_causes, results_have_steps, starts_in_rule, stray_keeps_rule, thread_follows,
     thread_keeps_rule, waits_end_for_cause, worker_follows, worker_keeps_rule,
 };
+pub use memory::Memory;
 pub use places::{establish_found, mark_at, sound_statement_at, statement_at};
 pub use threads::ThreadState;
 pub use workers::WorkerState;

@@ -5,7 +5,7 @@ ghost use Rattle.sb_rule.specs.Accesses.{read_only_bits};
 ghost use Rattle.sb_call.specs.declared.arguments.Arg.TheVariants.{Num};
 ghost use Rattle.sb_audit.specs.Comparing.{same_numbers, same_tag, same_argument, same_arguments};
 
-use sb_call::{Arg, CallTag, number_of};
+use sb_call::{Arg, CallTag};
 use sb_rule::READ_ONLY_BITS;
 
 /// Whether lists of numbers are the same.
@@ -25,7 +25,7 @@ fn same_units(a: &[u16], b: &[u16]) -> bool
 pub(crate) fn same_tag(a: CallTag, b: CallTag) -> bool
     ensures { result ≡ same_tag a b }
 {
-    number_of(a) == number_of(b)
+    a == b
 }
 
 fn same_argument(a: &Arg, b: &Arg) -> bool

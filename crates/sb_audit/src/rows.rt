@@ -4,12 +4,12 @@ ghost use Rattle.sb_audit.specs.Rows.{IsPut, IsPutInto, row_at, slot_at};
 
 use crate::slots::OwnReply;
 use sb_base::NoMemory;
-use sb_statements::MOST_THREADS;
+use sb_statements::MAX_THREADS;
 use std::alloc::Global;
 use std::marker::Model;
 
 // The most threads of all targets of a script.
-const MOST_ROWS: usize = 32;
+const MAX_ROWS: usize = 32;
 
 /// The replies of the entries on clean channels that have marks of one thread: each at the place of its call, up to the last place that
 /// has one. Contracts see the list.
@@ -87,7 +87,7 @@ impl Rows {
     {
         let mut rows = Vec::new(alloc);
         let mut made = 0;
-        while made < MOST_ROWS {
+        while made < MAX_ROWS {
             rows.push(Row::new(alloc))?;
             made += 1;
         }
@@ -100,7 +100,7 @@ impl Rows {
         requires thread { thread < 4 }
         ensures { result.now ≡ row_at self.now target thread }
     {
-        &self.rows[target as usize * MOST_THREADS + thread]
+        &self.rows[target as usize * MAX_THREADS + thread]
     }
 
     /// How many places the row of a thread has: one more than the last place that has a reply.
@@ -137,7 +137,7 @@ impl Rows {
         requires above { length (row_at self.old target thread) ≤ place }
         ensures { OnOk result (IsPut target thread place own self.old self.new) }
     {
-        let row = &mut self.rows[target as usize * MOST_THREADS + thread];
+        let row = &mut self.rows[target as usize * MAX_THREADS + thread];
         row.put(place, own)?;
         Ok(())
     }

@@ -14,7 +14,7 @@ use sb_transcript::ShownDecision;
 fn is_rule(rule: &Rule, tag: CallTag, line: u32, action: Action) -> bool
     ensures { result ≡ is_rule tag line action rule.now }
 {
-    rule.is_for(tag) && rule.line == line && rule.action.number() == action.number()
+    rule.is_for(tag) && rule.line == line && rule.action == action
 }
 
 fn has_rule(policy: &Policy, tag: CallTag, line: u32, action: Action) -> bool

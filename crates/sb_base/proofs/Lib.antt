@@ -1,6 +1,4 @@
-pub mod Digits
 pub mod Folding
-pub mod HexDigits
 pub mod Kept
 pub mod Padding
 pub mod Pairs

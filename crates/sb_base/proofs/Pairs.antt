@@ -2,7 +2,7 @@
 use Rattle.std.specs.Bool.{beq}
 use Rattle.std.specs.List.{list_all}
 use Rattle.std.proofs.Common.{◌≡◌, ◌∙◌, ℕ, ◌+◌, ◌-◌, ◌*◌, ◌/◌, ◌%◌, Bool, true, false, not, cond, List, [], ◌∷◌, ◌++◌, ◌&&◌, ◌||◌, ltb, refl, sym, arith}
-use Rattle.std.proofs.lemmas.Bool.{and_parts, false≢true}
+use Rattle.std.proofs.lemmas.Bool.{and_parts, false≢true, not-true}
 use Rattle.std.proofs.lemmas.Bool.Decides.{nat_tests}
 use Rattle.sb_base.specs.Wide.{is_unit, utf16_of}
 use Rattle.sb_base.specs.Surrogates.{is_high, is_low, is_surrogate, is_paired, is_paired_after, is_character, CharactersArePaired, PairedUnitsAreCharacters}
@@ -86,22 +86,18 @@ pair u v us h l spelled =
           ∙ (λ i. first i ∷ second i ∷ us),
     )
 
-untrue : (b : Bool) → not b ≡ true → b ≡ false
-untrue true h = absurd (false≢true h)
-untrue false h = refl
-
 -- a pair, or a unit that is no surrogate
 spelled_step : (u v : ℕ) (us : List ℕ) (is_pair : Bool) → (is_high u && is_low v) ≡ is_pair → is_unit u ≡ true
     → cond is_pair (is_paired us) (not (is_surrogate u) && is_paired (v ∷ us)) ≡ true
     → (is_paired us ≡ true → Spelled us) → (is_paired (v ∷ us) ≡ true → Spelled (v ∷ us)) → Spelled (u ∷ v ∷ us)
 spelled_step u v us true e b h two one = let p = and_parts (is_high u) (is_low v) e in pair u v us p.0 p.1 (two h)
 spelled_step u v us false e b h two one =
-    let p = and_parts (not (is_surrogate u)) (is_paired (v ∷ us)) h in lone u (v ∷ us) b (untrue (is_surrogate u) p.0) (one p.1)
+    let p = and_parts (not (is_surrogate u)) (is_paired (v ∷ us)) h in lone u (v ∷ us) b (not-true (is_surrogate u) p.0) (one p.1)
 
 pub paired_units_are_characters : PairedUnitsAreCharacters
 paired_units_are_characters [] b h = ([], refl, refl)
 paired_units_are_characters (u ∷ []) b h =
-    lone u [] (and_parts (is_unit u) true b).0 (untrue (is_surrogate u) h) ([], refl, refl)
+    lone u [] (and_parts (is_unit u) true b).0 (not-true (is_surrogate u) h) ([], refl, refl)
 paired_units_are_characters (u ∷ v ∷ us) b h =
     let units = and_parts (is_unit u) (is_unit v && list_all is_unit us) b in
     let later = (and_parts (is_unit v) (list_all is_unit us) units.1).1 in

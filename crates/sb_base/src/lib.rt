@@ -11,6 +11,7 @@ mod quoting;
 mod refusals;
 mod strings;
 mod surrogates;
+mod units;
 mod words;
 
 pub use items::Items;
@@ -23,7 +24,8 @@ pub use memory::NoMemory;
 pub use names::{eq_ignore_ascii_case, is_component, is_name, to_ascii_uppercase};
 pub use numbers::{put_decimal, put_eight_digits, put_hexadecimal, put_named};
 pub use quoting::quote_into;
-pub use refusals::Refused;
+pub use refusals::{Refused, UnknownNumber};
 pub use strings::Wide;
 pub use surrogates::{is_high_surrogate, is_low_surrogate, is_well_formed_utf16};
+pub use units::{BACKSLASH, QUESTION, QUOTE, SLASH, STAR};
 pub use words::is_word;

@@ -4,6 +4,8 @@ ghost use Rattle.std.specs.List.{list_all};
 ghost use Rattle.sb_base.specs.Wide.{folded, is_same};
 ghost use Rattle.sb_base.specs.Names.{is_name_of, is_component, is_ordinary, ends_well, parts_of};
 
+use crate::units::{BACKSLASH, SLASH, STAR};
+
 /// A unit from 97 to 122, an ASCII letter `a` to `z`, as the capital letter 32 below it, and any other unit as it is.
 ///
 /// No other letter has a folding: this is not Unicode's case folding.
@@ -26,12 +28,10 @@ pub fn eq_ignore_ascii_case(a: &[u16], b: &[u16]) -> bool
             .all(|(x, y)| to_ascii_uppercase(*x) == to_ascii_uppercase(*y))
 }
 
-const BACKSLASH: u16 = 92;
-
 fn is_ordinary(unit: u16) -> bool
     ensures { result ≡ is_ordinary unit }
 {
-    unit >= 32 && unit != BACKSLASH && unit != 47 && unit != 42
+    unit >= 32 && unit != BACKSLASH && unit != SLASH && unit != STAR
 }
 
 fn ends_well(part: &[u16]) -> bool

@@ -4,6 +4,7 @@ ghost use Rattle.std.specs.List.{flat_map};
 ghost use Rattle.sb_base.specs.Quoting.{quoted, quoted_unit, hex_digit};
 
 use crate::memory::NoMemory;
+use crate::units::{BACKSLASH, QUOTE};
 
 fn hex_digit(digit: u16) -> u8
     requires { digit < 16 }
@@ -60,11 +61,11 @@ fn append_unit(out: &mut Vec<u8>, unit: u16) -> Result<(), NoMemory>
     ensures err { OnErr result (out.new.items ≡ out.old.items) }
 {
     match unit {
-        34 | 92 => out.extend_from_slice(&[92, unit as u8])?,
+        QUOTE | BACKSLASH => out.extend_from_slice(&[b'\\', unit as u8])?,
         32..=126 => out.push(unit as u8)?,
         _ => {
             let digits = [
-                92,
+                b'\\',
                 b'u',
                 hex_digit(unit / 4096),
                 hex_digit(unit / 256 % 16),

@@ -1,4 +1,4 @@
-// Why a reader gives no value.
+// Why a reader or a conversion gives no value.
 
 use crate::memory::NoMemory;
 use std::fmt::Display;
@@ -15,6 +15,11 @@ pub enum Refused<F> {
     #[error("out of memory")]
     NoMemory,
 }
+
+/// No value of an enum has this number.
+#[derive(Clone, Copy, Debug, PartialEq, Eq, Error)]
+#[error("unknown number {0}")]
+pub struct UnknownNumber(pub u64);
 
 impl<F> From<NoMemory> for Refused<F> {
     ghost use Rattle.std.specs.Prelude.{◌≡◌};

@@ -1,7 +1,7 @@
 -- What each parameter of a copy without a fault has.
 use Rattle.std.proofs.Common.{◌≡◌, ◌∙◌, ℕ, zero, suc, ◌+◌, ◌*◌, ◌/◌, ◌%◌, ◌≤◌, ◌<◌, List, [], ◌∷◌, Bool, true, false, length, length-append, length-take, length-drop, drop, arith, refl, sym, ap, map}
 use Rattle.std.proofs.lemmas.List.{get_or-take, get_or-drop, length-map}
-use Rattle.std.proofs.lemmas.Bool.{and_parts, false≢true, eqb-true}
+use Rattle.std.proofs.lemmas.Bool.{and_parts, false≢true, eqb-true, not-false}
 use Rattle.std.proofs.lemmas.Bool.Decides.{nat_tests}
 use Rattle.std.specs.Prelude.{not, nat_eq, slice_index, slice_index_or, Option, None, Some, is_none, unwrap_or}
 use Rattle.std.specs.List.{list_all, flat_map}
@@ -15,11 +15,11 @@ use Rattle.sb_call.specs.declared.tags.ParamKind.TheVariants as kind
 use Rattle.sb_block.specs.Blocks.{bytes_of}
 use Rattle.sb_block.specs.Calls.{argument_in}
 use Rattle.sb_block.specs.Copies.{Copied, is_copy, is_end}
-use Rattle.sb_block.specs.Faults.{fault, has_shape, is_misplaced, is_missized, type_number, tag_in}
+use Rattle.sb_block.specs.Faults.{fault, has_shape, has_bad_place, has_bad_size, type_number, tag_in}
 use Rattle.sb_block.specs.Layout.{tag_word, count_in, end_in, first_offset, descriptor_at, descriptors}
 use Rattle.sb_block.specs.Laws.{TagsAreKnown, ParametersAreAsMany, ParametersHaveTheirSizes, ParametersHaveTheirTypes, ParametersLieInside}
 use Rattle.sb_block.specs.Packing.{type_of, offset_of, size_of, words_for, part_of, word_units, string_in}
-use Rattle.sb_block.proofs.FaultLemmas.{both_halves, counted, ended, faultless, fetched, has_length, not_false}
+use Rattle.sb_block.proofs.FaultLemmas.{both_halves, counted, ended, faultless, fetched, has_length}
 use Rattle.sb_block.proofs.UnreadLemmas.{fails_everywhere}
 
 -- what holds of all holds at each place
@@ -50,16 +50,16 @@ string_len info words even inside =
     )
 
 -- what a size that its type allows is
-even_size : (info : ℕ) → type_of info ≡ 1 → not (is_missized info) ≡ true → size_of info % 2 ≡ 0
+even_size : (info : ℕ) → type_of info ≡ 1 → not (has_bad_size info) ≡ true → size_of info % 2 ≡ 0
 even_size info t s = grind (arith, nat_tests)
 
-four_bytes : (info : ℕ) → type_of info ≡ 2 → not (is_missized info) ≡ true → size_of info ≡ 4
+four_bytes : (info : ℕ) → type_of info ≡ 2 → not (has_bad_size info) ≡ true → size_of info ≡ 4
 four_bytes info t s = grind (arith, nat_tests)
 
-eight_bytes : (info : ℕ) → type_of info ≡ 3 → not (is_missized info) ≡ true → size_of info ≡ 8
+eight_bytes : (info : ℕ) → type_of info ≡ 3 → not (has_bad_size info) ≡ true → size_of info ≡ 8
 eight_bytes info t s = grind (arith, nat_tests)
 
-sized_here : (k : ParamKind) (info : ℕ) (words : List ℕ) → type_of info ≡ type_number k → not (is_missized info) ≡ true
+sized_here : (k : ParamKind) (info : ℕ) (words : List ℕ) → type_of info ≡ type_number k → not (has_bad_size info) ≡ true
     → offset_of info + words_for (size_of info) ≤ length words → size_of info ≡ bytes_of k (argument_in words info)
 sized_here kind.Text info words t s inside = rw t (string_len info words (even_size info t s) inside)
 sized_here kind.Name info words t s inside = rw t (string_len info words (even_size info t s) inside)
@@ -97,7 +97,7 @@ known : (c : Copied) → is_copy c ≡ true → fault c ≡ None → Known c
 known c rule h =
     let f = fetched c (both_halves c h).0 in
     let len = has_length c rule f in
-    let inside : first_offset c.count_seen ≤ c.end_seen = within c.count_seen c.end_seen (not_false _ f.ends) in
+    let inside : first_offset c.count_seen ≤ c.end_seen = within c.count_seen c.end_seen (not-false _ f.ends) in
     let count : count_in c.words ≡ c.count_seen = sym (counted c f) in
     record {
       many = part_len 15 (count_in c.words) c.words (omega arith) ∙ count;
@@ -117,16 +117,16 @@ pub parameters_are_as_many : ParametersAreAsMany
 parameters_are_as_many c rule h =
     length-map (descriptors c.words) (argument_in c.words) ∙ (known c rule h).many
 
-placed_at : (count end info : ℕ) → not (is_misplaced count end info) ≡ true
+placed_at : (count end info : ℕ) → not (has_bad_place count end info) ≡ true
     → (first_offset count ≤ offset_of info) × (offset_of info + words_for (size_of info) ≤ end)
 placed_at count end info h = (grind (arith, nat_tests), grind (arith, nat_tests))
 
 pub parameters_lie_inside : ParametersLieInside
 parameters_lie_inside c rule h i l =
     let k = known c rule h in
-    let all = fails_everywhere (is_misplaced (count_in c.words) (end_in c.words)) (descriptors c.words) (faultless c h).placed in
-    let here : not (is_misplaced (count_in c.words) (end_in c.words) (slice_index (descriptors c.words) i)) ≡ true =
-    all_at (λ x. not (is_misplaced (count_in c.words) (end_in c.words) x)) (descriptors c.words) i all (omega (arith, k.many)) in
+    let all = fails_everywhere (has_bad_place (count_in c.words) (end_in c.words)) (descriptors c.words) (faultless c h).placed in
+    let here : not (has_bad_place (count_in c.words) (end_in c.words) (slice_index (descriptors c.words) i)) ≡ true =
+    all_at (λ x. not (has_bad_place (count_in c.words) (end_in c.words) x)) (descriptors c.words) i all (omega (arith, k.many)) in
     let places = placed_at (count_in c.words) (end_in c.words) (descriptor_at c.words i) (rw (k.same i l) at here) in
     (omega (arith, places.0, k.count), omega (arith, places.1, k.end))
 
@@ -134,15 +134,15 @@ pub parameters_have_their_types : ParametersHaveTheirTypes
 parameters_have_their_types c rule h i l =
     let k = known c rule h in
     ap type_of (sym (k.same i l))
-    ∙ typed_at (shape_of (tag_in c.words)) (descriptors c.words) i (not_false _ (faultless c h).shaped) (omega (arith, k.many))
+    ∙ typed_at (shape_of (tag_in c.words)) (descriptors c.words) i (not-false _ (faultless c h).shaped) (omega (arith, k.many))
 
 pub parameters_have_their_sizes : ParametersHaveTheirSizes
 parameters_have_their_sizes c rule h i l =
     let k = known c rule h in
     let inside : i < length (descriptors c.words) = omega (arith, k.many) in
-    let all = fails_everywhere is_missized (descriptors c.words) (faultless c h).sized in
-    let sized : not (is_missized (slice_index (descriptors c.words) i)) ≡ true =
-    all_at (λ x. not (is_missized x)) (descriptors c.words) i all inside in
+    let all = fails_everywhere has_bad_size (descriptors c.words) (faultless c h).sized in
+    let sized : not (has_bad_size (slice_index (descriptors c.words) i)) ≡ true =
+    all_at (λ x. not (has_bad_size x)) (descriptors c.words) i all inside in
     let size = sized_here (slice_index_or (shape_of (tag_in c.words)) i kind.Handle) (descriptor_at c.words i) c.words
     (parameters_have_their_types c rule h i l) (rw (k.same i l) at sized) (parameters_lie_inside c rule h i l).1 in
     rw (argument_at c.words (descriptors c.words) i inside, k.same i l) size

@@ -12,7 +12,7 @@ use Rattle.sb_call.specs.declared.arguments.Arg.{Arg}
 use Rattle.sb_call.specs.declared.arguments.Arg.TheVariants as arg
 use Rattle.sb_block.specs.Packing.{descriptor, words_for, part_of, packed, unpacked, word_units, string_in, number_in}
 use Rattle.sb_block.specs.Blocks.{bytes_of, content_of, contents_of, descriptors_of}
-use Rattle.sb_block.specs.Faults.{type_number, is_untyped, is_misplaced, is_missized, has_shape, is_unnamed, first_unnamed}
+use Rattle.sb_block.specs.Faults.{type_number, has_bad_type, has_bad_place, has_bad_size, has_shape, has_bad_name, first_bad_name}
 use Rattle.sb_block.specs.Calls.{argument_in}
 use Rattle.sb_base.specs.Wide.{is_unit}
 use Rattle.sb_block.specs.Blocks.{has_units}
@@ -105,21 +105,21 @@ argument_back pre post kind.Handle (arg.Num n) at e ha hs f h =
     rw (type_back 3 at 8 ha hs, number_back pre post 3 at 8 n e ha hs)
 
 -- a descriptor that was made has its parts
-is_typed : (k : ParamKind) (at s : ℕ) → at < 2 ^ 16 → s < 2 ^ 16 → not (is_untyped (descriptor (type_number k) at s)) ≡ true
+is_typed : (k : ParamKind) (at s : ℕ) → at < 2 ^ 16 → s < 2 ^ 16 → not (has_bad_type (descriptor (type_number k) at s)) ≡ true
 is_typed kind.Text at s ha hs = rw (type_back 1 at s ha hs)
 is_typed kind.Name at s ha hs = rw (type_back 1 at s ha hs)
 is_typed kind.Num at s ha hs = rw (type_back 2 at s ha hs)
 is_typed kind.Handle at s ha hs = rw (type_back 3 at s ha hs)
 
 is_placed : (count end t at s : ℕ) → at < 2 ^ 16 → s < 2 ^ 16 → 16 + count ≤ at → at + words_for s ≤ end
-    → not (is_misplaced count end (descriptor t at s)) ≡ true
+    → not (has_bad_place count end (descriptor t at s)) ≡ true
 is_placed count end t at s ha hs low high = rw (offset_back t at s ha hs, size_back t at s ha hs) (grind (arith, nat_tests))
 
 pub even_size : (n : ℕ) → 2 * n % 2 ≡ 0
 even_size n = omega arith
 
 is_sized : (k : ParamKind) (a : Arg) (at : ℕ) → at < 2 ^ 16 → bytes_of k a < 2 ^ 16 → fits_kind k a ≡ true
-    → not (is_missized (descriptor (type_number k) at (bytes_of k a))) ≡ true
+    → not (has_bad_size (descriptor (type_number k) at (bytes_of k a))) ≡ true
 is_sized kind.Text (arg.Str us) at ha hs f = rw (type_back 1 at (2 * length us) ha hs, size_back 1 at (2 * length us) ha hs, even_size (length us))
 is_sized kind.Name (arg.Str us) at ha hs f = rw (type_back 1 at (2 * length us) ha hs, size_back 1 at (2 * length us) ha hs, even_size (length us))
 is_sized kind.Num (arg.Str us) at ha hs f = absurd (false≢true f)
@@ -131,7 +131,7 @@ is_sized kind.Handle (arg.Num n) at ha hs f = rw (type_back 3 at 8 ha hs, size_b
 
 is_named : (pre post : List ℕ) (k : ParamKind) (a : Arg) (at : ℕ) → length pre ≡ at → at < 2 ^ 16
     → bytes_of k a < 2 ^ 16 → fits_kind k a ≡ true → has_units a ≡ true
-    → is_unnamed k (descriptor (type_number k) at (bytes_of k a)) (pre ++ (content_of a ++ post)) ≡ false
+    → has_bad_name k (descriptor (type_number k) at (bytes_of k a)) (pre ++ (content_of a ++ post)) ≡ false
 is_named pre post kind.Text a at e ha hs f h = refl
 is_named pre post kind.Num a at e ha hs f h = refl
 is_named pre post kind.Handle a at e ha hs f h = refl
@@ -155,7 +155,7 @@ room_of at k a args h =
 
 -- all types are known
 pub all_typed : (at : ℕ) (kinds : List ParamKind) (args : List Arg) → at + length (contents_of args) ≤ 64
-    → list_all (λ x. not (is_untyped x)) (descriptors_of at kinds args) ≡ true
+    → list_all (λ x. not (has_bad_type x)) (descriptors_of at kinds args) ≡ true
 all_typed at [] args h = refl
 all_typed at (k ∷ kinds) [] h = refl
 all_typed at (k ∷ kinds) (a ∷ args) h =
@@ -165,7 +165,7 @@ all_typed at (k ∷ kinds) (a ∷ args) h =
 -- all parameters are in place
 pub all_placed : (count end at : ℕ) (kinds : List ParamKind) (args : List Arg) → at + length (contents_of args) ≤ 64
     → 16 + count ≤ at → at + length (contents_of args) ≤ end
-    → list_all (λ x. not (is_misplaced count end x)) (descriptors_of at kinds args) ≡ true
+    → list_all (λ x. not (has_bad_place count end x)) (descriptors_of at kinds args) ≡ true
 all_placed count end at [] args h low high = refl
 all_placed count end at (k ∷ kinds) [] h low high = refl
 all_placed count end at (k ∷ kinds) (a ∷ args) h low high =
@@ -192,7 +192,7 @@ all_shaped at (k ∷ kinds) (a ∷ args) h f =
 
 -- all sizes are right
 pub all_sized : (at : ℕ) (kinds : List ParamKind) (args : List Arg) → at + length (contents_of args) ≤ 64
-    → fit kinds args ≡ true → list_all (λ x. not (is_missized x)) (descriptors_of at kinds args) ≡ true
+    → fit kinds args ≡ true → list_all (λ x. not (has_bad_size x)) (descriptors_of at kinds args) ≡ true
 all_sized at [] args h f = refl
 all_sized at (k ∷ kinds) [] h f = refl
 all_sized at (k ∷ kinds) (a ∷ args) h f =
@@ -211,7 +211,7 @@ further pre a at e = omega (arith, length-append pre (content_of a))
 -- what ought to be a name is one
 pub all_named : (ws pre : List ℕ) (at : ℕ) (kinds : List ParamKind) (args : List Arg) → ws ≡ pre ++ contents_of args
     → length pre ≡ at → at + length (contents_of args) ≤ 64 → fit kinds args ≡ true → list_all has_units args ≡ true
-    → first_unnamed kinds (descriptors_of at kinds args) ws ≡ None
+    → first_bad_name kinds (descriptors_of at kinds args) ws ≡ None
 all_named ws pre at [] args w e h f u = refl
 all_named ws pre at (k ∷ kinds) [] w e h f u = refl
 all_named ws pre at (k ∷ kinds) (a ∷ args) w e h f u =
@@ -219,7 +219,7 @@ all_named ws pre at (k ∷ kinds) (a ∷ args) w e h f u =
     let fitting = and_parts (fits_kind k a) (fit kinds args) f in
     let units = and_parts (has_units a) (list_all has_units args) u in
     let here = is_named pre (contents_of args) k a at e room.low room.few fitting.0 units.0 in
-    let here_too : is_unnamed k (descriptor (type_number k) at (bytes_of k a)) ws ≡ false = rw w here in
+    let here_too : has_bad_name k (descriptor (type_number k) at (bytes_of k a)) ws ≡ false = rw w here in
     rw (
       here_too,
       all_named ws (pre ++ content_of a) (at + length (content_of a)) kinds args (moved ws pre a args w)

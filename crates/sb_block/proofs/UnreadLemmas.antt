@@ -15,7 +15,7 @@ use Rattle.sb_call.specs.declared.arguments.Arg.TheVariants.{Num}
 use Rattle.sb_block.specs.Copies.{Copied, copied, is_end}
 use Rattle.sb_block.specs.Packing.{type_of, offset_of, string_in, number_in}
 use Rattle.sb_block.specs.Layout.{most_parameters, descriptors, end_in}
-use Rattle.sb_block.specs.Faults.{faults, first_there, has_shape, is_untyped, is_misplaced, is_missized, is_unnamed, first_unnamed, where_holds}
+use Rattle.sb_block.specs.Faults.{faults, first_there, has_shape, has_bad_type, has_bad_place, has_bad_size, has_bad_name, first_bad_name, where_holds}
 use Rattle.sb_block.specs.Calls.{called, argument_in, arguments_in, call_of, call_unless, decoded}
 use Rattle.sb_block.specs.Laws.{laid, UnreadWordsDoNotMatter, UpperHalvesDoNotMatter}
 use Rattle.sb_block.specs.declared.calls.Call.{Call}
@@ -66,21 +66,21 @@ same_number from ws vs word same l = same.words (offset_of word) l
 same_argument : (from : ℕ) (ws vs : List ℕ) (word : ℕ) → Same from ws vs → from ≤ offset_of word → argument_in ws word ≡ argument_in vs word
 same_argument from ws vs word same l = rw (same_string from ws vs word same l, same_number from ws vs word same l)
 
-placed_past : (count end word : ℕ) → not (is_misplaced count end word) ≡ true → 16 + count ≤ offset_of word
+placed_past : (count end word : ℕ) → not (has_bad_place count end word) ≡ true → 16 + count ≤ offset_of word
 placed_past count end word h = grind (arith, nat_tests)
 
 same_arguments : (count end : ℕ) (ws vs infos : List ℕ) → Same (16 + count) ws vs
-    → list_all (λ x. not (is_misplaced count end x)) infos ≡ true → map (argument_in ws) infos ≡ map (argument_in vs) infos
+    → list_all (λ x. not (has_bad_place count end x)) infos ≡ true → map (argument_in ws) infos ≡ map (argument_in vs) infos
 same_arguments count end ws vs [] same h = refl
 same_arguments count end ws vs (word ∷ more) same h =
-    let placed = and_parts (not (is_misplaced count end word)) (list_all (λ x. not (is_misplaced count end x)) more) h in
+    let placed = and_parts (not (has_bad_place count end word)) (list_all (λ x. not (has_bad_place count end x)) more) h in
     rw (
       same_argument (16 + count) ws vs word same (placed_past count end word placed.0),
       same_arguments count end ws vs more same placed.1,
     )
 
 same_named : (count end : ℕ) (ws vs : List ℕ) (k : ParamKind) (word : ℕ) → Same (16 + count) ws vs
-    → not (is_misplaced count end word) ≡ true → is_unnamed k word ws ≡ is_unnamed k word vs
+    → not (has_bad_place count end word) ≡ true → has_bad_name k word ws ≡ has_bad_name k word vs
 same_named count end ws vs kind.Text word same h = refl
 same_named count end ws vs kind.Num word same h = refl
 same_named count end ws vs kind.Handle word same h = refl
@@ -88,11 +88,11 @@ same_named count end ws vs kind.Name word same h =
     rw (same_string (16 + count) ws vs word same (placed_past count end word h))
 
 same_unnamed : (count end : ℕ) (ws vs : List ℕ) (kinds : List ParamKind) (infos : List ℕ) → Same (16 + count) ws vs
-    → list_all (λ x. not (is_misplaced count end x)) infos ≡ true → first_unnamed kinds infos ws ≡ first_unnamed kinds infos vs
+    → list_all (λ x. not (has_bad_place count end x)) infos ≡ true → first_bad_name kinds infos ws ≡ first_bad_name kinds infos vs
 same_unnamed count end ws vs [] infos same h = refl
 same_unnamed count end ws vs (k ∷ kinds) [] same h = refl
 same_unnamed count end ws vs (k ∷ kinds) (word ∷ more) same h =
-    let placed = and_parts (not (is_misplaced count end word)) (list_all (λ x. not (is_misplaced count end x)) more) h in
+    let placed = and_parts (not (has_bad_place count end word)) (list_all (λ x. not (has_bad_place count end x)) more) h in
     rw (same_named count end ws vs k word same placed.0, same_unnamed count end ws vs kinds more same placed.1)
 
 front_step : (b : Bool) (n m : ℕ) → nat_lt (if b then 1 + n else 0) (suc m) ≡ false → (b ≡ true) × (nat_lt n m ≡ false)
@@ -182,17 +182,17 @@ same_count n end tag mark count reply reply' infos params item item' c r r' i e 
     let ends = where_holds (not (is_end n end)) (BadEnd end) in
     let counts = where_holds (not (n == count)) (CountChanged n count) in
     let at_end = where_holds (not (end == offset_of item')) (EndChanged end (offset_of item')) in
-    let typed = option_map BadParamType (position is_untyped infos) in
+    let typed = option_map BadParamType (position has_bad_type infos) in
     let known = where_holds (is_none (tag_of tag)) (UnknownTag tag) in
     let shaped = where_holds (not (has_shape kinds infos)) WrongShape in
-    let sized = option_map BadSize (position is_missized infos) in
-    let named = λ (words : List ℕ). option_or (option_map BadName (first_unnamed kinds infos words)) None in
-    let last : position (is_misplaced count (offset_of item')) infos ≡ None
+    let sized = option_map BadSize (position has_bad_size infos) in
+    let named = λ (words : List ℕ). option_or (option_map BadName (first_bad_name kinds infos words)) None in
+    let last : position (has_bad_place count (offset_of item')) infos ≡ None
     → call_unless (option_or known (option_or shaped (option_or sized (named ws)))) k
     ≡ call_unless (option_or known (option_or shaped (option_or sized (named vs)))) k'
-    = λ p. let placed = fails_everywhere (is_misplaced count (offset_of item')) infos p in
+    = λ p. let placed = fails_everywhere (has_bad_place count (offset_of item')) infos p in
     rw (same_unnamed count (offset_of item') ws vs kinds infos same placed, same_arguments count (offset_of item') ws vs infos same placed) refl in
-    let after_types = after typed _ _ k k' (after_place (position (is_misplaced count (offset_of item')) infos) _ _ k k' last) in
+    let after_types = after typed _ _ k k' (after_place (position (has_bad_place count (offset_of item')) infos) _ _ k k' last) in
     let all = after few _ _ k k' (after ends _ _ k k' (after counts _ _ k k' (after at_end _ _ k k' after_types))) in
     rw (
       infos_found tag mark count reply infos params item r many,

@@ -12,7 +12,7 @@ use Rattle.sb_call.specs.declared.tags.ParamKind.TheVariants as kind
 use Rattle.sb_block.specs.Blocks.{bytes_of}
 use Rattle.sb_block.specs.Calls.{argument_in}
 use Rattle.sb_block.specs.Copies.{is_end}
-use Rattle.sb_block.specs.Faults.{first_unnamed, has_shape, is_misplaced, is_missized, is_unnamed, is_untyped, type_number}
+use Rattle.sb_block.specs.Faults.{first_bad_name, has_shape, has_bad_place, has_bad_size, has_bad_name, has_bad_type, type_number}
 use Rattle.sb_block.specs.Layout.{count_in, first_offset, descriptor_at, descriptors}
 use Rattle.sb_block.specs.Laws.{IsParameter, IsWellFormed, WellFormedWordsHaveNoFault}
 use Rattle.sb_block.specs.Packing.{type_of, offset_of, size_of, words_for, string_in}
@@ -37,36 +37,36 @@ shaped_from (k ∷ ks) (x ∷ xs) l h =
 
 -- names if they are due, each at its place
 named_from : (kinds : List ParamKind) (infos words : List ℕ) → length infos ≡ length kinds
-    → ((i : ℕ) → i < length infos → is_unnamed (slice_index_or kinds i kind.Handle) (slice_index infos i) words ≡ false)
-    → first_unnamed kinds infos words ≡ None
+    → ((i : ℕ) → i < length infos → has_bad_name (slice_index_or kinds i kind.Handle) (slice_index infos i) words ≡ false)
+    → first_bad_name kinds infos words ≡ None
 named_from [] infos words l h = refl
 named_from (k ∷ ks) [] words l h = refl
 named_from (k ∷ ks) (x ∷ xs) words l h =
     rw (h 0 (omega arith), named_from ks xs words (omega arith) (λ i m. h (suc i) (omega arith)))
 
 -- what one parameter has
-typed_here : (k : ParamKind) (info : ℕ) → type_of info ≡ type_number k → not (is_untyped info) ≡ true
+typed_here : (k : ParamKind) (info : ℕ) → type_of info ≡ type_number k → not (has_bad_type info) ≡ true
 typed_here kind.Text info t = rw t
 typed_here kind.Name info t = rw t
 typed_here kind.Num info t = rw t
 typed_here kind.Handle info t = rw t
 
 placed_here : (count end info : ℕ) → first_offset count ≤ offset_of info → offset_of info + words_for (size_of info) ≤ end
-    → not (is_misplaced count end info) ≡ true
+    → not (has_bad_place count end info) ≡ true
 placed_here count end info low high = grind (arith, nat_tests)
 
-string_sized : (info : ℕ) (us : List ℕ) → type_of info ≡ 1 → size_of info ≡ 2 * length us → not (is_missized info) ≡ true
+string_sized : (info : ℕ) (us : List ℕ) → type_of info ≡ 1 → size_of info ≡ 2 * length us → not (has_bad_size info) ≡ true
 string_sized info us t s = rw (t, s, even_size (length us))
 
 sized_here : (k : ParamKind) (info : ℕ) (words : List ℕ) → type_of info ≡ type_number k
-    → size_of info ≡ bytes_of k (argument_in words info) → not (is_missized info) ≡ true
+    → size_of info ≡ bytes_of k (argument_in words info) → not (has_bad_size info) ≡ true
 sized_here kind.Text info words t s = string_sized info (string_in info words) t (rw t at s)
 sized_here kind.Name info words t s = string_sized info (string_in info words) t (rw t at s)
 sized_here kind.Num info words t s = let four : size_of info ≡ 4 = rw t at s in rw (t, four)
 sized_here kind.Handle info words t s = let eight : size_of info ≡ 8 = rw t at s in rw (t, eight)
 
 named_here : (k : ParamKind) (info : ℕ) (words : List ℕ) → type_of info ≡ type_number k
-    → fits_kind k (argument_in words info) ≡ true → is_unnamed k info words ≡ false
+    → fits_kind k (argument_in words info) ≡ true → has_bad_name k info words ≡ false
 named_here kind.Text info words t f = refl
 named_here kind.Num info words t f = refl
 named_here kind.Handle info words t f = refl
@@ -97,13 +97,13 @@ well_formed_words_have_no_fault words tag w =
     let count = count_in words in
     let len = descriptors_len words w.behind in
     let many : length (descriptors words) ≡ length (shape_of tag) = len ∙ w.many in
-    let typed = nowhere is_untyped (descriptors words)
-    (all_parameters (λ x. not (is_untyped x)) words tag w (λ i p. typed_here (kind_at tag i) (descriptor_at words i) p.typed)) in
-    let placed = nowhere (is_misplaced count (length words)) (descriptors words)
-    (all_parameters (λ x. not (is_misplaced count (length words) x)) words tag w
+    let typed = nowhere has_bad_type (descriptors words)
+    (all_parameters (λ x. not (has_bad_type x)) words tag w (λ i p. typed_here (kind_at tag i) (descriptor_at words i) p.typed)) in
+    let placed = nowhere (has_bad_place count (length words)) (descriptors words)
+    (all_parameters (λ x. not (has_bad_place count (length words) x)) words tag w
     (λ i p. placed_here count (length words) (descriptor_at words i) p.begins p.ends)) in
-    let sized = nowhere is_missized (descriptors words)
-    (all_parameters (λ x. not (is_missized x)) words tag w
+    let sized = nowhere has_bad_size (descriptors words)
+    (all_parameters (λ x. not (has_bad_size x)) words tag w
     (λ i p. sized_here (kind_at tag i) (descriptor_at words i) words p.typed p.sized)) in
     let shaped = shaped_from (shape_of tag) (descriptors words) many (λ i l.
     let inside : i < count = omega (arith, len) in

@@ -1,6 +1,6 @@
 -- The whole block of a call gives that call back.
-use Rattle.std.proofs.Common.{◌≡◌, ℕ, ◌+◌, ◌*◌, ◌≤◌, ◌^◌, List, [], ◌∷◌, ◌++◌, true, false, length, length-append, arith, refl, sym, ap, ◌∙◌, append_assoc, Bool, ◌<◌, ◌&&◌}
-use Rattle.std.proofs.lemmas.Bool.{and_parts, false≢true}
+use Rattle.std.proofs.Common.{◌≡◌, ℕ, ◌+◌, ◌*◌, ◌≤◌, ◌^◌, List, [], ◌∷◌, ◌++◌, true, false, length, length-append, arith, refl, sym, ap, ◌∙◌, append_assoc, ◌<◌, ◌&&◌}
+use Rattle.std.proofs.lemmas.Bool.{and_parts, false≢true, and_right}
 use Rattle.std.proofs.lemmas.Bool.Decides.{nat_tests}
 use Rattle.std.specs.Prelude.{nat_lt, slice_index, None, Some, replicate, nat_le, Ok}
 use Rattle.sb_call.specs.Arguments.{fit, fits, fits_kind}
@@ -13,7 +13,7 @@ use Rattle.sb_block.specs.Copies.{whole, is_copy, is_end}
 use Rattle.sb_block.specs.Packing.{offset_of}
 use Rattle.sb_block.specs.Blocks.{block, encodes, has_units, contents_of, descriptors_of, end_offset}
 use Rattle.sb_block.specs.Layout.{end_in, first_offset, descriptors}
-use Rattle.sb_block.specs.Faults.{fault, is_untyped, is_misplaced, is_missized}
+use Rattle.sb_block.specs.Faults.{fault, has_bad_type, has_bad_place, has_bad_size}
 use Rattle.sb_block.specs.Calls.{decoded, call_of, called}
 use Rattle.sb_block.specs.Laws.{BlocksComeBack}
 use Rattle.std.specs.List.{list_all}
@@ -23,16 +23,7 @@ use Rattle.sb_block.proofs.ReadingLemmas.{nowhere, all_typed, all_placed, all_sh
 -- each tag is the tag of its number
 tag_back : (tag : CallTag) → tag_of (number_of tag) ≡ Some tag
 tag_back Ping = refl
-tag_back FileCreate = refl
-tag_back FileOpen = refl
-tag_back FileQuery = refl
-tag_back FileRename = refl
-tag_back PipeCreate = refl
-tag_back KeyCreate = refl
-tag_back KeyOpen = refl
-tag_back EventCreate = refl
-tag_back EventOpen = refl
-tag_back HandleClose = refl
+tag_back _ = refl
 
 -- no call has more than six parameters
 pub few_parameters : (tag : CallTag) → length (shape_of tag) ≤ 6
@@ -129,11 +120,11 @@ copy_fine : (tag : CallTag) (args : List Arg) (mark : ℕ) → Fitting tag args 
     → fault (whole (block tag args mark)) ≡ None
 copy_fine tag args mark p units =
     let room = room_for tag args mark p in
-    let typed = nowhere is_untyped (infos_in tag args) (all_typed (first_offset (length args)) (shape_of tag) args room) in
-    let placed = nowhere (is_misplaced (length args) (end_offset args)) (infos_in tag args)
+    let typed = nowhere has_bad_type (infos_in tag args) (all_typed (first_offset (length args)) (shape_of tag) args room) in
+    let placed = nowhere (has_bad_place (length args) (end_offset args)) (infos_in tag args)
     (all_placed (length args) (end_offset args) (first_offset (length args)) (shape_of tag) args room (omega arith) (omega arith)) in
     let shaped = all_shaped (first_offset (length args)) (shape_of tag) args room p.fitting in
-    let sized = nowhere is_missized (infos_in tag args) (all_sized (first_offset (length args)) (shape_of tag) args room p.fitting) in
+    let sized = nowhere has_bad_size (infos_in tag args) (all_sized (first_offset (length args)) (shape_of tag) args room p.fitting) in
     let named = all_named (block tag args mark) (before tag args mark) (first_offset (length args)) (shape_of tag) args
     (block_parts tag args mark) (before_len tag args mark p.fitting) room p.fitting units in
     rw (
@@ -192,10 +183,6 @@ fits_encoded tag args mark p =
     let most : nat_le (length (block tag args 0)) 64 ≡ true = grind (arith, nat_tests, p.room) in
     rw (p.fitting, most)
 
-last_false : (a b : Bool) → b ≡ false → (a && b) ≡ false
-last_false true b h = h
-last_false false b h = refl
-
 pub too_big_not_encoded : (tag : CallTag) (args : List Arg) (mark : ℕ) → 64 < length (block tag args mark) → encodes tag args ≡ false
 too_big_not_encoded tag args mark h =
-    last_false (fits tag args) (nat_le (length (block tag args 0)) 64) (grind (arith, nat_tests, h))
+    and_right (fits tag args) (nat_le (length (block tag args 0)) 64) (grind (arith, nat_tests, h))

@@ -23,12 +23,12 @@ type_number Num = 2
 type_number Handle = 3
 
 -- the type is neither string, number nor handle
-abbrev pub is_untyped : ℕ → Bool
-is_untyped word = not (nat_le 1 (type_of word) && nat_le (type_of word) 3)
+abbrev pub has_bad_type : ℕ → Bool
+has_bad_type word = not (nat_le 1 (type_of word) && nat_le (type_of word) 3)
 
 -- a parameter begins before the end item is over, or reaches past the end
-abbrev pub is_misplaced : ℕ → ℕ → ℕ → Bool
-is_misplaced count end word =
+abbrev pub has_bad_place : ℕ → ℕ → ℕ → Bool
+has_bad_place count end word =
     nat_lt (offset_of word) (first_offset count) || nat_lt end (offset_of word + words_for (size_of word))
 
 -- the tag of word 0; if that is no tag's number, which is a fault, it is ping
@@ -40,26 +40,26 @@ abbrev pub has_shape : List ParamKind → List ℕ → Bool
 has_shape kinds infos = pointwise nat_eq (map type_of infos) (map type_number kinds)
 
 -- a string has an odd size, a number another than 4 bytes, or a handle another than 8
-abbrev pub is_missized : ℕ → Bool
-is_missized word =
+abbrev pub has_bad_size : ℕ → Bool
+has_bad_size word =
     if type_of word == 1 then not (size_of word % 2 == 0)
     else (if type_of word == 2 then not (size_of word == 4)
     else not (size_of word == 8))
 
 -- a parameter that should be a name is not one
-abbrev pub is_unnamed : ParamKind → ℕ → List ℕ → Bool
-is_unnamed Text word words = false
-is_unnamed Name word words = not (is_name_of (string_in word words))
-is_unnamed Num word words = false
-is_unnamed Handle word words = false
+abbrev pub has_bad_name : ParamKind → ℕ → List ℕ → Bool
+has_bad_name Text word words = false
+has_bad_name Name word words = not (is_name_of (string_in word words))
+has_bad_name Num word words = false
+has_bad_name Handle word words = false
 
 -- the first parameter that should be a name and is not one
-abbrev pub first_unnamed : List ParamKind → List ℕ → List ℕ → Option ℕ
-first_unnamed [] infos words = None
-first_unnamed (kind ∷ kinds) [] words = None
-first_unnamed (kind ∷ kinds) (word ∷ more) words =
-    if is_unnamed kind word words then Some 0
-    else option_map (λ n. n + 1) (first_unnamed kinds more words)
+abbrev pub first_bad_name : List ParamKind → List ℕ → List ℕ → Option ℕ
+first_bad_name [] infos words = None
+first_bad_name (kind ∷ kinds) [] words = None
+first_bad_name (kind ∷ kinds) (word ∷ more) words =
+    if has_bad_name kind word words then Some 0
+    else option_map (λ n. n + 1) (first_bad_name kinds more words)
 
 -- a fault that is there if a test holds
 abbrev pub where_holds : Bool → BlockFault → Option BlockFault
@@ -73,12 +73,12 @@ faults c =
     ∷ where_holds (not (is_end c.count_seen c.end_seen)) (BadEnd c.end_seen)
     ∷ where_holds (not (c.count_seen == count_in c.words)) (CountChanged c.count_seen (count_in c.words))
     ∷ where_holds (not (c.end_seen == end_in c.words)) (EndChanged c.end_seen (end_in c.words))
-    ∷ option_map BadParamType (position is_untyped (descriptors c.words))
-    ∷ option_map BadPlace (position (is_misplaced (count_in c.words) (end_in c.words)) (descriptors c.words))
+    ∷ option_map BadParamType (position has_bad_type (descriptors c.words))
+    ∷ option_map BadPlace (position (has_bad_place (count_in c.words) (end_in c.words)) (descriptors c.words))
     ∷ where_holds (is_none (tag_of (tag_word c.words))) (UnknownTag (tag_word c.words))
     ∷ where_holds (not (has_shape (shape_of (tag_in c.words)) (descriptors c.words))) WrongShape
-    ∷ option_map BadSize (position is_missized (descriptors c.words))
-    ∷ option_map BadName (first_unnamed (shape_of (tag_in c.words)) (descriptors c.words) c.words)
+    ∷ option_map BadSize (position has_bad_size (descriptors c.words))
+    ∷ option_map BadName (first_bad_name (shape_of (tag_in c.words)) (descriptors c.words) c.words)
     ∷ []
 
 -- the first that is there

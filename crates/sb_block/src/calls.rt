@@ -11,7 +11,7 @@ use crate::layout::{descriptors, tag_word};
 use crate::packing::{number_in, type_of, unpack_string};
 use arrayvec::ArrayVec;
 use sb_base::{NoMemory, Refused, Wide};
-use sb_call::{Arg, Args, CallTag, tag_of};
+use sb_call::{Arg, Args, CallTag};
 use std::alloc::Global;
 
 /// A call with the caller's mark.
@@ -57,7 +57,7 @@ fn arguments_in(alloc: Global, descriptors: &[u64], words: &[u64]) -> Result<Arg
 fn tag_in(words: &[u64]) -> CallTag
     ensures { result ≡ tag_in words.now }
 {
-    tag_of(tag_word(words)).unwrap_or(CallTag::Ping)
+    CallTag::try_from(tag_word(words)).unwrap_or(CallTag::Ping)
 }
 
 /// The call of a copy, whatever its words are: the tag of word 0, the mark of word 1, and an
@@ -67,18 +67,18 @@ fn tag_in(words: &[u64]) -> CallTag
 /// # Errors
 /// `Fault` exactly if `fault_of` gives that fault, and `NoMemory` only if a copy without a
 /// fault ran out of memory for its arguments.
-pub fn decode(alloc: Global, taken: &BlockCopy) -> Result<Call, BlockRefused>
-    ensures value { MatchResult result (λ call. decoded taken.now ≡ Ok call) (IsRefusal (decoded taken.now)) }
-    ensures faultless { IfErr result (λ refused. refused ≡ Refused.NoMemory → fault taken.now ≡ None) }
+pub fn decode(alloc: Global, copy: &BlockCopy) -> Result<Call, BlockRefused>
+    ensures value { MatchResult result (λ call. decoded copy.now ≡ Ok call) (IsRefusal (decoded copy.now)) }
+    ensures faultless { IfErr result (λ refused. refused ≡ Refused.NoMemory → fault copy.now ≡ None) }
     ensures fits { IfOk result (λ call. fits call.tag call.args ≡ true) }
 {
-    if let Some(fault) = fault_of(taken) {
+    if let Some(fault) = fault_of(copy) {
         return Err(BlockRefused::Fault(fault));
     }
-    let words = taken.words();
+    let words = copy.words();
     Ok(Call {
         tag: tag_in(words),
-        mark: taken.mark(),
+        mark: copy.mark(),
         args: arguments_in(alloc, descriptors(words), words)?,
     })
 }

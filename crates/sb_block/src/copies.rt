@@ -3,7 +3,7 @@ ghost use Rattle.std.specs.Prelude.{◌≡◌, ◌≤◌, length, true, Option, 
 ghost use Rattle.sb_block.specs.Copies.{Copied, copied, is_copy, mark_of};
 ghost use Rattle.sb_block.specs.Layout.{most_words};
 
-use crate::layout::{MOST_PARAMETERS, is_end};
+use crate::layout::{MAX_PARAMETERS, is_end};
 use crate::words::Words;
 use std::marker::Model;
 
@@ -39,7 +39,7 @@ impl BlockCopy {
             else None) }
     {
         let len = words.len() as u64;
-        let right = if count > MOST_PARAMETERS {
+        let right = if count > MAX_PARAMETERS {
             end == 0 && len == 0
         } else if is_end(count, end) {
             len == end

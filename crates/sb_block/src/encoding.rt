@@ -11,10 +11,10 @@ ghost use Rattle.sb_block.specs.Blocks.{block, encodes, end_offset, has_units, b
 ghost use Rattle.sb_block.specs.Layout.{first_offset, most_words, reply_length};
 
 use crate::faults::type_number;
-use crate::layout::{MOST_WORDS, REPLY_LENGTH, first_offset};
+use crate::layout::{MAX_WORDS, REPLY_LENGTH, first_offset};
 use crate::packing::{descriptor, end_item, unit_word};
 use crate::words::Words;
-use sb_call::{Arg, CallTag, ParamKind, fits, number_of, shape};
+use sb_call::{Arg, CallTag, ParamKind, fits, shape};
 use thiserror::Error;
 
 /// The block of a call would need more than 64 words.
@@ -75,7 +75,7 @@ fn has_room(args: &[Arg], room: u64) -> bool
 fn is_small(args: &[Arg]) -> bool
     ensures { result ≡ nat_le (first_offset (length args.now) + length (contents_of args.now)) most_words }
 {
-    has_room(args, MOST_WORDS - first_offset(0))
+    has_room(args, MAX_WORDS - first_offset(0))
 }
 
 #[tactic(auto, using(crate::proofs::PackingLemmas::packed_len))]
@@ -152,7 +152,7 @@ fn put_opening(words: &mut Words, tag: CallTag, mark: u64, count: u64)
     ensures { words.new ≡ number_of tag ∷ mark ∷ count ∷ replicate reply_length 0 }
 {
     words.clear();
-    words.extend(&[number_of(tag), mark, count]);
+    words.extend(&[tag as u64, mark, count]);
     words.extend(&[0; REPLY_LENGTH]);
 }
 

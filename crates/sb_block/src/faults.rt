@@ -2,17 +2,17 @@
 ghost use Rattle.std.specs.Prelude.{◌≡◌, ◌≤◌, length, drop};
 ghost use Rattle.std.specs.List.{position};
 ghost use Rattle.sb_block.specs.Copies.{whole};
-ghost use Rattle.sb_block.specs.Faults.{fault, faults, first_there, is_untyped, is_misplaced, is_missized, first_unnamed, has_shape, is_unnamed, type_number};
+ghost use Rattle.sb_block.specs.Faults.{fault, faults, first_there, has_bad_type, has_bad_place, has_bad_size, first_bad_name, has_shape, has_bad_name, type_number};
 ghost use Rattle.sb_block.specs.Layout.{count_in, most_parameters, most_words};
 
 use crate::copies::BlockCopy;
 use crate::layout::{
-    MOST_PARAMETERS, count_in, descriptors, end_in, first_offset, is_end, tag_word,
+    MAX_PARAMETERS, count_in, descriptors, end_in, first_offset, is_end, tag_word,
 };
 use crate::packing::{offset_of, size_of, type_of, unpack_string, words_for};
 use arrayvec::ArrayVec;
 use sb_base::is_name;
-use sb_call::{ParamKind, shape, tag_of};
+use sb_call::{CallTag, ParamKind, shape};
 use thiserror::Error;
 
 /// What is wrong with a copy: the first of these that is there, in the order of the variants and
@@ -52,22 +52,22 @@ pub enum BlockFault {
     BadName(u32),
 }
 
-fn is_untyped(descriptor: u64) -> bool
-    ensures { result ≡ is_untyped descriptor }
+fn has_bad_type(descriptor: u64) -> bool
+    ensures { result ≡ has_bad_type descriptor }
 {
     !matches!(type_of(descriptor), 1..=3)
 }
 
-fn is_misplaced(count: u64, end: u64, descriptor: u64) -> bool
+fn has_bad_place(count: u64, end: u64, descriptor: u64) -> bool
     requires { count ≤ most_parameters }
-    ensures { result ≡ is_misplaced count end descriptor }
+    ensures { result ≡ has_bad_place count end descriptor }
 {
     let offset = offset_of(descriptor);
     offset < first_offset(count) || offset + words_for(size_of(descriptor)) > end
 }
 
-fn is_missized(descriptor: u64) -> bool
-    ensures { result ≡ is_missized descriptor }
+fn has_bad_size(descriptor: u64) -> bool
+    ensures { result ≡ has_bad_size descriptor }
 {
     let size = size_of(descriptor);
     match type_of(descriptor) {
@@ -103,15 +103,12 @@ fn has_shape(kinds: &[ParamKind], descriptors: &[u64]) -> bool
         kinds = more_kinds;
         descriptors = more;
     }
-    match descriptors.split_first() {
-        Some(_) => false,
-        None => true,
-    }
+    descriptors.is_empty()
 }
 
-fn is_unnamed(kind: ParamKind, descriptor: u64, words: &[u64]) -> bool
+fn has_bad_name(kind: ParamKind, descriptor: u64, words: &[u64]) -> bool
     requires { length words.now ≤ most_words }
-    ensures { result ≡ is_unnamed kind descriptor words.now }
+    ensures { result ≡ has_bad_name kind descriptor words.now }
 {
     match kind {
         ParamKind::Name => {
@@ -123,17 +120,17 @@ fn is_unnamed(kind: ParamKind, descriptor: u64, words: &[u64]) -> bool
     }
 }
 
-fn first_unnamed(kinds: &[ParamKind], descriptors: &[u64], words: &[u64]) -> Option<u32>
+fn first_bad_name(kinds: &[ParamKind], descriptors: &[u64], words: &[u64]) -> Option<u32>
     requires words { length words.now ≤ most_words }
     requires few { length descriptors.now ≤ most_parameters }
-    ensures { result ≡ first_unnamed kinds.now descriptors.now words.now }
+    ensures { result ≡ first_bad_name kinds.now descriptors.now words.now }
 {
     let mut kinds = kinds;
     let mut descriptors = descriptors;
     let mut at = 0;
     while let Some((kind, more_kinds)) = kinds.split_first() {
         let (descriptor, more) = descriptors.split_first()?;
-        if is_unnamed(*kind, *descriptor, words) {
+        if has_bad_name(*kind, *descriptor, words) {
             return Some(at);
         }
         kinds = more_kinds;
@@ -143,25 +140,25 @@ fn first_unnamed(kinds: &[ParamKind], descriptors: &[u64], words: &[u64]) -> Opt
     None
 }
 
-fn first_untyped(descriptors: &[u64]) -> Option<usize>
-    ensures { result ≡ position is_untyped descriptors.now }
+fn first_bad_type(descriptors: &[u64]) -> Option<usize>
+    ensures { result ≡ position has_bad_type descriptors.now }
 {
-    descriptors.iter().position(|word| is_untyped(*word))
+    descriptors.iter().position(|word| has_bad_type(*word))
 }
 
-fn first_misplaced(count: u64, end: u64, descriptors: &[u64]) -> Option<usize>
+fn first_bad_place(count: u64, end: u64, descriptors: &[u64]) -> Option<usize>
     requires { count ≤ most_parameters }
-    ensures { result ≡ position (is_misplaced count end) descriptors.now }
+    ensures { result ≡ position (has_bad_place count end) descriptors.now }
 {
     descriptors
         .iter()
-        .position(|word| is_misplaced(count, end, *word))
+        .position(|word| has_bad_place(count, end, *word))
 }
 
-fn first_missized(descriptors: &[u64]) -> Option<usize>
-    ensures { result ≡ position is_missized descriptors.now }
+fn first_bad_size(descriptors: &[u64]) -> Option<usize>
+    ensures { result ≡ position has_bad_size descriptors.now }
 {
-    descriptors.iter().position(|word| is_missized(*word))
+    descriptors.iter().position(|word| has_bad_size(*word))
 }
 
 /// The first fault of the words of a copy, by themselves.
@@ -171,33 +168,33 @@ fn fault_in(words: &[u64]) -> Option<BlockFault>
     ensures { result ≡ first_there (drop 4 (faults (whole words.now))) }
 {
     let descriptors = descriptors(words);
-    if let Some(at) = first_untyped(descriptors) {
+    if let Some(at) = first_bad_type(descriptors) {
         return Some(BlockFault::BadParamType(at as u32));
     }
-    if let Some(at) = first_misplaced(count_in(words), end_in(words), descriptors) {
+    if let Some(at) = first_bad_place(count_in(words), end_in(words), descriptors) {
         return Some(BlockFault::BadPlace(at as u32));
     }
-    let Some(tag) = tag_of(tag_word(words)) else {
+    let Ok(tag) = CallTag::try_from(tag_word(words)) else {
         return Some(BlockFault::UnknownTag(tag_word(words)));
     };
     if !has_shape(shape(tag), descriptors) {
         return Some(BlockFault::WrongShape);
     }
-    if let Some(at) = first_missized(descriptors) {
+    if let Some(at) = first_bad_size(descriptors) {
         return Some(BlockFault::BadSize(at as u32));
     }
-    let at = first_unnamed(shape(tag), descriptors, words)?;
+    let at = first_bad_name(shape(tag), descriptors, words)?;
     Some(BlockFault::BadName(at))
 }
 
 /// The first fault of a copy, or None if it has none. Does not allocate.
-pub fn fault_of(taken: &BlockCopy) -> Option<BlockFault>
-    ensures { result ≡ fault taken.now }
+pub fn fault_of(copy: &BlockCopy) -> Option<BlockFault>
+    ensures { result ≡ fault copy.now }
 {
-    let count = taken.count_seen();
-    let end = taken.end_seen();
-    let words = taken.words();
-    if count > MOST_PARAMETERS {
+    let count = copy.count_seen();
+    let end = copy.end_seen();
+    let words = copy.words();
+    if count > MAX_PARAMETERS {
         return Some(BlockFault::TooManyParams(count));
     }
     if !is_end(count, end) {

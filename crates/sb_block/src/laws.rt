@@ -1,9 +1,10 @@
 // Laws of blocks and copies. None of these functions does anything: each contract is a law.
 ghost use Rattle.sb_block.specs.Laws.{FetchedNumbersAreCopied, FaultlessCopiesAreWhole, LaterFaultsAreOfWholeCopies, TagsAreKnown, ParametersLieInside, ParametersHaveTheirTypes, ParametersHaveTheirSizes, ParametersAreAsMany, WellFormedWordsHaveNoFault, BlocksComeBack, FaultlessCopiesFit, UnreadWordsDoNotMatter, UpperHalvesDoNotMatter};
 
-/// No double fetch. The count and the end that were fetched before a copy without a fault are those
-/// that are in it. So the copy is its words taken whole, and these alone decide. A copy whose fault
-/// is of a parameter or of the tag, and not of the count or the end, is its words taken whole too.
+/// The count and the end are fetched twice and have to agree: those that were fetched before a copy
+/// without a fault are those that are in it. So the copy is its words taken whole, and these alone
+/// decide. A copy whose fault is of a parameter or of the tag, and not of the count or the end, is
+/// its words taken whole too.
 pub fn copies_are_whole()
     ensures fetched { FetchedNumbersAreCopied }
     ensures faultless { FaultlessCopiesAreWhole }

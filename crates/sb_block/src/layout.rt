@@ -6,10 +6,10 @@ ghost use Rattle.sb_block.specs.Layout.{most_parameters, most_words, first_offse
 use crate::packing::{offset_of, part_of, word_at};
 
 /// The most words of a block.
-pub const MOST_WORDS: u64 = 64;
+pub const MAX_WORDS: u64 = 64;
 
 /// The most parameters of a block.
-pub const MOST_PARAMETERS: u64 = 9;
+pub const MAX_PARAMETERS: u64 = 9;
 
 /// The word that holds the number of parameters.
 pub const COUNT_WORD: u64 = 2;
@@ -36,7 +36,7 @@ pub fn is_end(count: u64, end: u64) -> bool
     requires { count ≤ most_parameters }
     ensures { result ≡ is_end count end }
 {
-    first_offset(count) <= end && end <= MOST_WORDS
+    first_offset(count) <= end && end <= MAX_WORDS
 }
 
 /// The number of the call's tag: word 0, or 0 if there is none.

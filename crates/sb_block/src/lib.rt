@@ -3,8 +3,8 @@
 // alone. No word is trusted: each copy has either a fault or one call, whatever its words are.
 //
 // The laws, in `laws`:
-// - `copies_are_whole`: no double fetch. The count and the end that were fetched before a copy
-//   without a fault are those in it, so that the copied words alone decide.
+// - `copies_are_whole`: the count and the end are fetched twice and have to agree. Those that were
+//   fetched before a copy without a fault are those in it, so that the copied words alone decide.
 // - `parameters_lie_inside`: each parameter of a copy without a fault lies after the end item and
 //   within the copy, with the type and the size of its argument; `nothing_else_is_refused` is the
 //   converse.
@@ -35,8 +35,7 @@ pub use laws::{
     parameters_lie_inside, unread_parts_do_not_matter,
 };
 pub use layout::{
-    COUNT_WORD, FIRST_DESCRIPTOR, FIRST_REPLY_WORD, MOST_PARAMETERS, MOST_WORDS, REPLY_LENGTH,
-    is_end,
+    COUNT_WORD, FIRST_DESCRIPTOR, FIRST_REPLY_WORD, MAX_PARAMETERS, MAX_WORDS, REPLY_LENGTH, is_end,
 };
 pub use packing::offset_of;
 pub use replies::{read_reply, replies_come_back, reply_words};

@@ -9,7 +9,7 @@ use crate::rulings::Ruling;
 use crate::slices::EntrySlice;
 use crate::stored_args::{ArgRow, put_args, unit_count};
 use sb_base::NoMemory;
-use sb_block::{BlockCopy, MOST_WORDS};
+use sb_block::{BlockCopy, MAX_WORDS};
 use sb_call::{Arg, Reply};
 use std::alloc::Global;
 use std::marker::Model;
@@ -115,7 +115,7 @@ impl EntryStore {
     {
         let units = unit_count(args).ok_or(NoMemory)?;
         self.rows.reserve(1)?;
-        self.words.reserve(MOST_WORDS as usize)?;
+        self.words.reserve(MAX_WORDS as usize)?;
         self.args.reserve(args.len())?;
         self.units.reserve(units)?;
         Ok(())

@@ -1,5 +1,5 @@
 -- The words by which texts name calls.
-use Rattle.std.specs.Prelude.{ℕ, ◌==◌, Bool, nat_eq, List, [], ◌∷◌, slice_index, Option, None, Some, if◌then◌else◌, codes}
+use Rattle.std.specs.Prelude.{ℕ, Bool, nat_eq, List, [], ◌∷◌, Option, None, Some, if◌then◌else◌, codes}
 use Rattle.std.specs.Cmp.Lexicographic.{pointwise}
 use Rattle.sb_call.specs.declared.tags.CallTag.{CallTag}
 use Rattle.sb_call.specs.declared.tags.CallTag.TheVariants.{Ping, FileCreate, FileOpen, FileQuery, FileRename, PipeCreate, KeyCreate, KeyOpen, EventCreate, EventOpen, HandleClose}
@@ -31,16 +31,3 @@ call_word HandleClose = codes "handle.close"
 -- the call of a word
 abbrev pub tag_of_word : List ℕ → Option CallTag
 tag_of_word word = named call_word every_tag word
-
--- the only call that may have a word with these bytes at places 0, 5 and 6
-abbrev pub call_by_bytes : ℕ → ℕ → ℕ → CallTag
-call_by_bytes first sixth seventh =
-    if first == 102 then (if sixth == 99 then FileCreate else (if sixth == 111 then FileOpen else (if sixth == 113 then FileQuery else FileRename)))
-    else (if first == 112 then (if sixth == 99 then PipeCreate else Ping)
-    else (if first == 107 then (if sixth == 114 then KeyCreate else KeyOpen)
-    else (if first == 101 then (if seventh == 99 then EventCreate else EventOpen)
-    else HandleClose)))
-
--- the only call that may have this word
-abbrev pub likely_tag : List ℕ → CallTag
-likely_tag word = call_by_bytes (slice_index word 0) (slice_index word 5) (slice_index word 6)

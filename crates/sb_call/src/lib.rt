@@ -23,4 +23,4 @@ pub use statuses::{
     NAME_COLLISION, NAME_EXISTS, NAME_NOT_FOUND, NOT_A_DIRECTORY, PATH_NOT_FOUND,
     SHARING_VIOLATION, SUCCESS, TYPE_MISMATCH,
 };
-pub use tags::{CallTag, ParamKind, number_of, shape, tag_of};
+pub use tags::{CallTag, ParamKind, shape};

@@ -1,7 +1,9 @@
 // The calls that a target may forward: their tags, numbers and parameters.
 ghost use Rattle.std.specs.Prelude.{◌≡◌, slice_get};
 ghost use Rattle.sb_call.specs.Parameters.{is_number_kind};
-ghost use Rattle.sb_call.specs.Tags.{tag_of, number_of, shape_of};
+ghost use Rattle.sb_call.specs.Tags.{shape_of};
+
+use sb_base::UnknownNumber;
 
 /// A call that a target may forward. Each tag has a number, which encodes it in a block.
 #[derive(Clone, Copy, Debug, PartialEq, Eq)]
@@ -31,7 +33,7 @@ pub enum CallTag {
 }
 
 /// What a parameter of a call is.
-#[derive(Clone, Copy, Debug)]
+#[derive(Clone, Copy, Debug, PartialEq, Eq)]
 pub enum ParamKind {
     /// A wide string without another rule.
     Text,
@@ -64,30 +66,31 @@ impl CallTag {
     }
 }
 
-/// The number of a tag, from 1 to 11.
-pub fn number_of(tag: CallTag) -> u64
-    ensures { result ≡ number_of tag }
-{
-    tag as u64
-}
+/// The tag of a number from 1 to 11, and an error exactly for any other.
+impl TryFrom<u64> for CallTag {
+    ghost use Rattle.std.specs.Prelude.{◌≡◌};
+    ghost use Rattle.std.specs.Result.{result_ok};
+    ghost use Rattle.sb_call.specs.Tags.{tag_of};
 
-/// The tag of a number. None exactly if no tag has that number.
-pub fn tag_of(number: u64) -> Option<CallTag>
-    ensures { result ≡ tag_of number }
-{
-    match number {
-        1 => Some(CallTag::Ping),
-        2 => Some(CallTag::FileCreate),
-        3 => Some(CallTag::FileOpen),
-        4 => Some(CallTag::FileQuery),
-        5 => Some(CallTag::FileRename),
-        6 => Some(CallTag::PipeCreate),
-        7 => Some(CallTag::KeyCreate),
-        8 => Some(CallTag::KeyOpen),
-        9 => Some(CallTag::EventCreate),
-        10 => Some(CallTag::EventOpen),
-        11 => Some(CallTag::HandleClose),
-        _ => None,
+    type Error = UnknownNumber;
+
+    ghost try_from_gives = { λ number result. result_ok result ≡ tag_of number };
+
+    fn try_from(number: u64) -> Result<CallTag, UnknownNumber> {
+        match number {
+            1 => Ok(CallTag::Ping),
+            2 => Ok(CallTag::FileCreate),
+            3 => Ok(CallTag::FileOpen),
+            4 => Ok(CallTag::FileQuery),
+            5 => Ok(CallTag::FileRename),
+            6 => Ok(CallTag::PipeCreate),
+            7 => Ok(CallTag::KeyCreate),
+            8 => Ok(CallTag::KeyOpen),
+            9 => Ok(CallTag::EventCreate),
+            10 => Ok(CallTag::EventOpen),
+            11 => Ok(CallTag::HandleClose),
+            _ => Err(UnknownNumber(number)),
+        }
     }
 }
 

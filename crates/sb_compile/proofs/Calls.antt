@@ -55,16 +55,7 @@ code_at (c ∷ calls) (suc i) = code_at calls i
 -- the code of a call in the program of a policy
 code_in_program : (policy : Policy) (tag : CallTag) → code_of policy.rules tag ≡ code_in (program_of policy) tag
 code_in_program policy Ping = refl
-code_in_program policy FileCreate = refl
-code_in_program policy FileOpen = refl
-code_in_program policy FileQuery = refl
-code_in_program policy FileRename = refl
-code_in_program policy PipeCreate = refl
-code_in_program policy KeyCreate = refl
-code_in_program policy KeyOpen = refl
-code_in_program policy EventCreate = refl
-code_in_program policy EventOpen = refl
-code_in_program policy HandleClose = refl
+code_in_program policy _ = refl
 
 -- and its lines
 pub code_listed : (policy : Policy) (tag : CallTag) (code : List Opcode) → code ≡ code_of policy.rules tag

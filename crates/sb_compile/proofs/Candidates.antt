@@ -97,12 +97,6 @@ all_dropped (suc at) [] e = refl
 all_dropped zero (x ∷ xs) e = absurd (omega (arith, e))
 all_dropped (suc at) (x ∷ xs) e = all_dropped at xs (omega (arith, e))
 
-inside : (at n : ℕ) → ltb at n ≡ true → at < n
-inside at n t = ltb-true at n t
-
-outside : (at n : ℕ) → ltb at n ≡ false → n ≤ at
-outside at n t = ltb-false at n t
-
 -- rules that do not hold are left out without loss
 skip_one : (args : List Arg) (rules : List (List Opcode)) (at : ℕ) → (at < length rules → rule_holds args (slice_index_or rules at []) ≡ false)
     → judged_by args (drop at rules) ≡ judged_by args (drop (at + 1) rules)
@@ -110,11 +104,11 @@ skip_one args rules at h = by (ltb at (length rules)) refl
   where
     by : (b : Bool) → ltb at (length rules) ≡ b → judged_by args (drop at rules) ≡ judged_by args (drop (at + 1) rules)
     by true t =
-        let within = inside at (length rules) t in
+        let within = ltb-true at (length rules) t in
         ap (judged_by args) (drop_more rules at [] within)
         ∙ ap (λ b. cond b (action_of_rule (slice_index_or rules at [])) (judged_by args (drop (at + 1) rules))) (h within)
     by false t =
-        let past = outside at (length rules) t in
+        let past = ltb-false at (length rules) t in
         ap (judged_by args) (all_dropped at rules past ∙ sym (all_dropped (at + 1) rules (omega (arith, past))))
 
 none_more : (at : ℕ) → at ≡ at + 0

@@ -1,4 +1,5 @@
 -- The group of a condition holds if the condition does.
+use Rattle.std.proofs.Math.Bool.{or-false}
 use Rattle.std.specs.Prelude.{nat_lt, Option, None, Some, option_map, option_and_then, is_some, nat_le, bit_and, bit_or}
 use Rattle.std.specs.Bool.{beq}
 use Rattle.std.specs.List.{list_any}
@@ -30,7 +31,7 @@ use Rattle.sb_opcode.specs.Meaning.{one_holds, all_hold, after_opcode, after_all
 use Rattle.sb_compile.specs.Compiling.{opcode, here, closed, cond_code, test_code, first_code, later_code, or_true, runs_code}
 use Rattle.sb_compile.proofs.Ends.{are_plain, group_closed}
 use Rattle.sb_compile.proofs.Members.{is_member, are_members, member, members_plain, star_members, here_members, is_placed, is_placed_well}
-use Rattle.sb_compile.proofs.Runs.{runs_of, pattern_holds}
+use Rattle.sb_compile.proofs.Runs.{runs_of, pattern_holds, last_alone}
 use Rattle.sb_compile.proofs.Seeking.{units_none, same_alone}
 
 abbrev pub is_number : Arg → Bool
@@ -52,14 +53,6 @@ left_one false arg = refl
 swapped : (n m : ℕ) → eqb n m ≡ eqb m n
 swapped n m = grind (arith, nat_tests)
 
-or_none : (b : Bool) → (b || false) ≡ b
-or_none true = refl
-or_none false = refl
-
-last_alone : (left : Option (List ℕ)) → is_some (option_and_then (after_all []) (option_map arg.Str left)) ≡ is_some left
-last_alone None = refl
-last_alone (Some us) = refl
-
 any_number : (param : ℕ) (ns : List ℕ) (value : ℕ)
     → list_any (λ op. is_some (after_opcode op (arg.Num value))) (map (λ k. opcode param OR (op.Num k)) ns) ≡ list_any (λ n. eqb n value) ns
 any_number param [] value = refl
@@ -76,7 +69,7 @@ numbers_hold param n m ns (arg.Num value) h = any_number param (n ∷ m ∷ ns) 
 numbers_hold param n m ns (arg.Str us) h = absurd (false≢true h)
 
 number_holds : (param n : ℕ) (a : Arg) → is_number a ≡ true → is_some (test_left param (test.OneOf (n ∷ [])) a) ≡ test_holds (test.OneOf (n ∷ [])) a
-number_holds param n (arg.Num value) h = left_some (eqb value n) (arg.Num value) ∙ swapped value n ∙ sym (or_none (eqb n value))
+number_holds param n (arg.Num value) h = left_some (eqb value n) (arg.Num value) ∙ swapped value n ∙ sym (or-false (eqb n value))
 number_holds param n (arg.Str us) h = absurd (false≢true h)
 
 range_holds : (param lo hi : ℕ) (a : Arg) → is_number a ≡ true → is_some (test_left param (test.Range lo hi) a) ≡ test_holds (test.Range lo hi) a

@@ -1,10 +1,11 @@
 -- Code that rules become has no fault.
+use Rattle.std.proofs.Math.Bool.{and-false}
 use Rattle.std.specs.Bool.{beq}
 use Rattle.std.specs.List.{flat_map, list_all, position, prefix_len}
 use Rattle.std.specs.Option.{option_or}
 use Rattle.std.specs.Prelude.{Option, None, Some, option_map, nat_le}
-use Rattle.std.proofs.Common.{◌≡◌, ◌≢◌, ◌∙◌, ℕ, ◌+◌, Bool, true, false, not, cond, List, [], ◌∷◌, ◌++◌, ◌&&◌, ◌||◌, eqb, ltb, filter, length, refl, ap, sym, subst, arith}
-use Rattle.std.proofs.lemmas.Bool.{and_parts, false≢true, le-ltb}
+use Rattle.std.proofs.Common.{◌≡◌, ◌≢◌, ◌∙◌, ℕ, ◌+◌, Bool, true, false, not, cond, List, [], ◌∷◌, ◌++◌, ◌&&◌, ◌||◌, eqb, ltb, filter, length, refl, ap, subst, arith}
+use Rattle.std.proofs.lemmas.Bool.{and_parts, false≢true, le-ltb, or_parts}
 use Rattle.std.proofs.lemmas.List.{append_assoc}
 use Rattle.std.proofs.lemmas.List.Folds.{list_all-append}
 use Rattle.sb_call.specs.Tags.{TagsComeBack}
@@ -36,10 +37,6 @@ Follows before param choice = (op : Opcode) → op.param ≡ param → has op.op
 follows_end : (before : Option Opcode) (param : ℕ) (choice : Bool) → goes_on before ≡ false → Follows before param choice
 follows_end before param choice h op p c = ap (λ b. b && differs before op) h
 
-never : (b : Bool) → (b && false) ≡ false
-never true = refl
-never false = refl
-
 chosen_same : (b : Bool) → beq b b ≡ true
 chosen_same true = refl
 chosen_same false = refl
@@ -48,11 +45,7 @@ follows_member : (before : Opcode) (param : ℕ) (choice : Bool) → before.para
 follows_member before param choice p c op q d =
     (λ i. goes_on (Some before) && (not (eqb (p i) (q i)) || not (beq (c i) (d i))))
     ∙ (λ i. goes_on (Some before) && (not (same param i) || not (chosen_same choice i)))
-    ∙ never (goes_on (Some before))
-
-or_parts : (a b : Bool) → (a || b) ≡ false → (a ≡ false) × (b ≡ false)
-or_parts true b h = absurd (false≢true (sym h))
-or_parts false b h = (refl, h)
+    ∙ and-false (goes_on (Some before))
 
 -- the last opcode of a group has options that fit, if it had such before
 end_fits : (negated : Bool) (op : Opcode) → is_plain op ≡ true → is_act op ≡ false → is_unfit op ≡ false → is_unfit (with_options (end_bits negated) op) ≡ false
@@ -67,7 +60,7 @@ end_fits negated op plain no_act fit =
     let p = or_parts ((cut || chosen) || acts) others fit in
     let q = or_parts (cut || chosen) acts p.0 in
     let r = or_parts cut chosen q.0 in
-    let first : (has w.options NEGATE && not (has w.options CLEAR)) ≡ false = (λ i. has w.options NEGATE && not (k.clears_now i)) ∙ never (has w.options NEGATE) in
+    let first : (has w.options NEGATE && not (has w.options CLEAR)) ≡ false = (λ i. has w.options NEGATE && not (k.clears_now i)) ∙ and-false (has w.options NEGATE) in
     let second : (text && has w.options OR) ≡ false = ap (λ b. text && b) k.choice_kept ∙ r.1 in
     let third : (is_act op && has_options w.options) ≡ false = ap (λ b. b && has_options w.options) no_act in
     let fourth : (not text && (has w.options FOLD || has w.options EXACT)) ≡ false = (λ i. not text && (k.folds_kept i || k.exact_kept i)) ∙ p.1 in
@@ -84,7 +77,7 @@ group_open negated tag param choice op [] rest before h follows later =
     let m = member tag param choice op (and_parts (is_member tag param choice op) true h).0 in
     let k = kept negated op.options.0 m.plain in
     let w = with_options (end_bits negated) op in
-    let ended : goes_on (Some w) ≡ false = (λ i. not (is_act w) && not (k.clears_now i)) ∙ never (not (is_act w)) in
+    let ended : goes_on (Some w) ≡ false = (λ i. not (is_act w) && not (k.clears_now i)) ∙ and-false (not (is_act w)) in
     both (not_open before w (follows w m.param_is (k.choice_kept ∙ m.choice_is)) m.no_act (end_fits negated op m.plain m.no_act m.fit)) (later w ended)
 group_open negated tag param choice op (next ∷ ops) rest before h follows later =
     let p = and_parts (is_member tag param choice op) (are_members tag param choice (next ∷ ops)) h in

@@ -11,11 +11,11 @@ use Rattle.std.proofs.lemmas.List.Folds.{list_all-append}
 use Rattle.sb_base.specs.Quoting.{quoted, quoted_unit, hex_digit}
 use Rattle.sb_call.specs.CallWords.{call_word, every_tag}
 use Rattle.sb_call.specs.declared.tags.CallTag.{CallTag}
-use Rattle.sb_call.specs.declared.tags.CallTag.TheVariants.{Ping, FileCreate, FileOpen, FileQuery, FileRename, PipeCreate, KeyCreate, KeyOpen, EventCreate, EventOpen, HandleClose}
+use Rattle.sb_call.specs.declared.tags.CallTag.TheVariants.{Ping}
 use Rattle.sb_rule.specs.PatternReading.{text_of}
 use Rattle.sb_rule.specs.Actions.{action_word}
 use Rattle.sb_rule.specs.declared.actions.Action.{Action}
-use Rattle.sb_rule.specs.declared.actions.Action.TheVariants.{Allow, Deny, Alarm, Fake, ReadOnly}
+use Rattle.sb_rule.specs.declared.actions.Action.TheVariants.{Allow}
 use Rattle.sb_opcode.specs.Options.{has, NEGATE, CLEAR, OR, FOLD, EXACT}
 use Rattle.sb_opcode.specs.Opcodes.{Opcode}
 use Rattle.sb_opcode.specs.Opcodes.{OpKind}
@@ -28,7 +28,7 @@ use Rattle.sb_compile.specs.Listing.{seek_text, number_text, kind_text, word_if,
 use Rattle.sb_compile.specs.ListingLines.{heading, lines_from, lines_of, ListingsAreLines}
 use Rattle.sb_base.specs.OneLine.{is_no_lf, is_one_line}
 
-abbrev joined : List (List ℕ) → List ℕ
+abbrev pub joined : List (List ℕ) → List ℕ
 joined lines = flat_map (λ line. line) lines
 
 opcodes_join : (at : ℕ) (ops : List Opcode) → opcode_lines at ops ≡ joined (lines_from at ops)
@@ -98,23 +98,11 @@ quoted_no_lf us = two (flat_map quoted_unit us) (34 ∷ []) (units_no_lf us) ref
 
 call_no_lf : (tag : CallTag) → has_no_lf (call_word tag) ≡ true
 call_no_lf Ping = refl
-call_no_lf FileCreate = refl
-call_no_lf FileOpen = refl
-call_no_lf FileQuery = refl
-call_no_lf FileRename = refl
-call_no_lf PipeCreate = refl
-call_no_lf KeyCreate = refl
-call_no_lf KeyOpen = refl
-call_no_lf EventCreate = refl
-call_no_lf EventOpen = refl
-call_no_lf HandleClose = refl
+call_no_lf _ = refl
 
 action_no_lf : (action : Action) → has_no_lf (action_word action) ≡ true
 action_no_lf Allow = refl
-action_no_lf Deny = refl
-action_no_lf Alarm = refl
-action_no_lf Fake = refl
-action_no_lf ReadOnly = refl
+action_no_lf _ = refl
 
 seek_no_lf : (seek : Seek) → has_no_lf (seek_text seek) ≡ true
 seek_no_lf (Skip n) = two (codes "skip ") (decimal n) refl (decimal_no_lf n)
@@ -183,7 +171,7 @@ heading_ends name tag h =
     let next = two (codes "code " ++ name) (codes " ") one refl in
     ended (codes "code " ++ name ++ codes " " ++ call_word tag) (two (codes "code " ++ name ++ codes " ") (call_word tag) next (call_no_lf tag))
 
-abbrev each_ends : List (List ℕ) → Bool
+abbrev pub each_ends : List (List ℕ) → Bool
 each_ends lines = list_all is_one_line lines
 
 opcodes_end : (at : ℕ) (ops : List Opcode) → each_ends (lines_from at ops) ≡ true

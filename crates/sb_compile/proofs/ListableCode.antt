@@ -185,16 +185,7 @@ test_listable param (test.Like cells) s sensible sized = pattern_listable param 
 
 few_params : (tag : CallTag) → nat_le (length (shape_of tag)) 9 ≡ true
 few_params Ping = refl
-few_params FileCreate = refl
-few_params FileOpen = refl
-few_params FileQuery = refl
-few_params FileRename = refl
-few_params PipeCreate = refl
-few_params KeyCreate = refl
-few_params KeyOpen = refl
-few_params EventCreate = refl
-few_params EventOpen = refl
-few_params HandleClose = refl
+few_params _ = refl
 
 small_param : (param count : ℕ) → nat_lt param count ≡ true → nat_le count 9 ≡ true → is_word64 param ≡ true
 small_param param count h few = lt-ltb param (2 ^ 64) (omega (arith, ltb-true param count h, leb-true count 9 few))
@@ -204,13 +195,10 @@ ends_small : (negated : Bool) (n : ℕ) → n < 32 → ltb (bit_or n (end_bits n
 ends_small true n h = below_all (λ k. ltb (bit_or k (end_bits true)) 32) 32 n refl h
 ends_small false n h = below_all (λ k. ltb (bit_or k (end_bits false)) 32) 32 n refl h
 
-below : (m n : ℕ) → ltb m n ≡ true → m < n
-below m n h = ltb-true m n h
-
 end_listable : (negated : Bool) (op : Opcode) → is_listable op ≡ true → is_listable (with_options (end_bits negated) op) ≡ true
 end_listable negated op h =
     let p = and_parts (is_listable_kind op.kind && (has_param op.kind || eqb op.param 0) && is_word64 op.param) (ltb op.options.0 32) h in
-    both p.0 (ends_small negated op.options.0 (below op.options.0 32 p.1))
+    both p.0 (ends_small negated op.options.0 (ltb-true op.options.0 32 p.1))
 
 closed_listable : (negated : Bool) (ops : List Opcode) → are_listable ops ≡ true → are_listable (closed negated ops) ≡ true
 closed_listable negated [] h = refl

@@ -3,7 +3,7 @@ use Rattle.std.specs.Bool.{beq}
 use Rattle.std.specs.Prelude.{nat_lt, bit_or}
 use Rattle.std.specs.List.{list_all}
 use Rattle.std.proofs.Common.{◌≡◌, ◌∙◌, ℕ, Bool, true, false, not, cond, List, [], ◌∷◌, ◌++◌, ◌&&◌, eqb, length, map, refl, sym, subst}
-use Rattle.std.proofs.lemmas.Bool.{and_parts, eqb-true, false≢true}
+use Rattle.std.proofs.lemmas.Bool.{and_parts, eqb-true, false≢true, not-true}
 use Rattle.std.proofs.lemmas.Bool.Decides.{Decides-eqb}
 use Rattle.std.proofs.lemmas.List.Folds.{list_all-append}
 use Rattle.sb_call.specs.Arguments.{kind_at}
@@ -145,10 +145,6 @@ equal_tests true false h = absurd (false≢true h)
 equal_tests false true h = absurd (false≢true h)
 equal_tests false false h = refl
 
-is_not : (b : Bool) → not b ≡ true → b ≡ false
-is_not true h = absurd (false≢true h)
-is_not false h = refl
-
 pub member : (tag : CallTag) (param : ℕ) (choice : Bool) (op : Opcode) → is_member tag param choice op ≡ true → Member tag param choice op
 member tag param choice op h =
     let chosen = beq (has op.options OR) choice in
@@ -162,9 +158,9 @@ member tag param choice op h =
       param_is = eqb-true op.param param a.0;
       choice_is = equal_tests (has op.options OR) choice b.0;
       plain = c.0;
-      no_act = is_not (is_act op) d.0;
+      no_act = not-true (is_act op) d.0;
       suited = e.0;
-      fit = is_not (is_unfit op) e.1;
+      fit = not-true (is_unfit op) e.1;
     }
 
 pub members_plain : (tag : CallTag) (param : ℕ) (choice : Bool) (ops : List Opcode) → are_members tag param choice ops ≡ true → are_plain ops ≡ true

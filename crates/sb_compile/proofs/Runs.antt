@@ -55,7 +55,7 @@ runs_of (Any ∷ cells) =
 runs_of (One ∷ cells) = onto One cells refl refl (runs_of cells)
 runs_of (Lit u ∷ cells) = onto (Lit u) cells refl refl (runs_of cells)
 
-last_alone : (left : Option (List ℕ)) → is_some (option_and_then (after_all []) (option_map arg.Str left)) ≡ is_some left
+pub last_alone : (left : Option (List ℕ)) → is_some (option_and_then (after_all []) (option_map arg.Str left)) ≡ is_some left
 last_alone None = refl
 last_alone (Some us) = refl
 

@@ -1,4 +1,5 @@
 -- The first place where a fragment occurs can be taken without loss if a `*` follows it.
+use Rattle.std.proofs.Math.Bool.{or-false, and-false}
 use Rattle.std.specs.Prelude.{Option, None, Some, option_and_then, is_some}
 use Rattle.std.specs.List.{list_all, prefix_len}
 use Rattle.std.specs.Option.{option_or}
@@ -159,14 +160,6 @@ uneven_too n = ne_eqb (suc n) 0 (λ e. absurd (omega (arith, e)))
 even : (n m : ℕ) → eqb (suc n) (suc m) ≡ eqb n m
 even n m = grind (arith, nat_tests)
 
-never : (b : Bool) → (b && false) ≡ false
-never true = refl
-never false = refl
-
-always_or : (b : Bool) → (b || false) ≡ b
-always_or true = refl
-always_or false = refl
-
 -- and if they are as many as the units and are at the front
 pub free_whole : (run : List Cell) (us : List ℕ) → is_free run ≡ true → matches run us ≡ (eqb (length run) (length us) && is_some (after_fragment true run us))
 free_whole [] [] free = refl
@@ -183,7 +176,7 @@ free_whole (Lit w ∷ run) (u ∷ us) free =
     by : (b : Bool) → matches run us ≡ (eqb (length run) (length us) && is_some (after_fragment true run us))
         → (b && matches run us) ≡ (eqb (length run) (length us) && is_some (cond b (after_fragment true run us) None))
     by true e = e
-    by false e = sym (never (eqb (length run) (length us)))
+    by false e = sym (and-false (eqb (length run) (length us)))
 
 -- the last place before which this many units are left
 end_step : (run : List Cell) (u : ℕ) (us : List ℕ) (low same high : Bool)
@@ -198,7 +191,7 @@ end_step run u us true false true l s h =
 end_step run u us false true false l s h = absurd (omega (arith, eqb-true (length run) (suc (length us)) s, leb-false (length run) (suc (length us)) h))
 end_step run u us false true true l s h =
     let e : suc (length us) - length run ≡ 0 = omega (arith, eqb-true (length run) (suc (length us)) s) in
-    always_or (is_some (after_fragment true run (u ∷ us))) ∙ ap (λ n. is_some (after_fragment true run (drop n (u ∷ us)))) (sym e)
+    or-false (is_some (after_fragment true run (u ∷ us))) ∙ ap (λ n. is_some (after_fragment true run (drop n (u ∷ us)))) (sym e)
 end_step run u us false false true l s h = absurd (grind (arith, nat_tests))
 end_step run u us false false false l s h = refl
 

@@ -16,7 +16,7 @@ use Rattle.sb_compile.specs.Listing.{kind_text, opcode_line, listing_of}
 use Rattle.sb_compile.specs.ListingLaws.{is_listable, AreListable, ListingsDiffer}
 use Rattle.sb_compile.specs.ListingLines.{heading, lines_from, lines_of, listing_lines}
 use Rattle.sb_base.specs.OneLine.{is_no_lf, is_one_line}
-use Rattle.sb_compile.proofs.Lines.{listings_are_lines}
+use Rattle.sb_compile.proofs.Lines.{listings_are_lines, joined, each_ends}
 use Rattle.sb_compile.proofs.Splits.{apart, clash, same_head, cancel, is_letter, split_word}
 use Rattle.sb_compile.proofs.ToldOpcodes.{line_parts, same_opcode}
 use Rattle.sb_compile.proofs.ToldOptions.{options_end}
@@ -34,12 +34,6 @@ split_line (x ∷ c ∷ xs) (y ∷ z ∷ zs) r s ha hb e =
     let first : x ≡ y = same_head e in
     let later = split_line (c ∷ xs) (z ∷ zs) r s (and_parts (is_no_lf x) (is_one_line (c ∷ xs)) ha).1 (and_parts (is_no_lf y) (is_one_line (z ∷ zs)) hb).1 (ap (drop 1) e) in
     ((λ i. first i ∷ later.0 i), later.1)
-
-abbrev joined : List (List ℕ) → List ℕ
-joined lines = flat_map (λ line. line) lines
-
-abbrev each_ends : List (List ℕ) → Bool
-each_ends lines = list_all is_one_line lines
 
 abbrev is_empty : List ℕ → Bool
 is_empty [] = true
@@ -120,29 +114,11 @@ number_in (Some tag) = number_of tag
 
 number_comes_back : (tag : CallTag) → number_in (tag_of_word (call_word tag)) ≡ number_of tag
 number_comes_back Ping = refl
-number_comes_back FileCreate = refl
-number_comes_back FileOpen = refl
-number_comes_back FileQuery = refl
-number_comes_back FileRename = refl
-number_comes_back PipeCreate = refl
-number_comes_back KeyCreate = refl
-number_comes_back KeyOpen = refl
-number_comes_back EventCreate = refl
-number_comes_back EventOpen = refl
-number_comes_back HandleClose = refl
+number_comes_back _ = refl
 
 call_letters : (tag : CallTag) → list_all is_letter (call_word tag) ≡ true
 call_letters Ping = refl
-call_letters FileCreate = refl
-call_letters FileOpen = refl
-call_letters FileQuery = refl
-call_letters FileRename = refl
-call_letters PipeCreate = refl
-call_letters KeyCreate = refl
-call_letters KeyOpen = refl
-call_letters EventCreate = refl
-call_letters EventOpen = refl
-call_letters HandleClose = refl
+call_letters _ = refl
 
 -- equal headings are of one call
 same_heading : (name : List ℕ) (t u : CallTag) → heading name t ≡ heading name u → number_of t ≡ number_of u
@@ -168,9 +144,6 @@ calls_go_on name program (tag ∷ tags) = code_goes_on name tag (code_in program
 abbrev is_other : CallTag → CallTag → Bool
 is_other tag other = not (eqb (number_of other) (number_of tag))
 
-same_number : (m n : ℕ) → m ≡ n → eqb m n ≡ true
-same_number m n e = eq-eqb m n e
-
 abbrev has_line : List (List ℕ) → Bool
 has_line [] = false
 has_line (line ∷ lines) = true
@@ -180,7 +153,7 @@ other_begins : (name : List ℕ) (tag other : CallTag) (ops : List Opcode) (rest
     → (rest ≡ heading name tag ∷ more → ⊥) → lines_of name other ops ++ rest ≡ heading name tag ∷ more → ⊥
 other_begins name tag other [] rest more h later e = later e
 other_begins name tag other (op ∷ ops) rest more h later e =
-    clash (eqb (number_of other) (number_of tag)) (same_number (number_of other) (number_of tag) (same_heading name other tag (ap (λ l. get_or l 0 []) e))) h
+    clash (eqb (number_of other) (number_of tag)) (eq-eqb (number_of other) (number_of tag) (same_heading name other tag (ap (λ l. get_or l 0 []) e))) h
 
 no_such_heading : (name : List ℕ) (program : Compiled) (tag : CallTag) (tags : List CallTag) (more : List (List ℕ)) → list_all (is_other tag) tags ≡ true
     → lines_in name program tags ≡ heading name tag ∷ more → ⊥

@@ -64,17 +64,11 @@ action_back w =
 
 action_comes_back : (action : Action) → action_back (action_word action) ≡ action
 action_comes_back Allow = refl
-action_comes_back Deny = refl
-action_comes_back Alarm = refl
-action_comes_back Fake = refl
-action_comes_back ReadOnly = refl
+action_comes_back _ = refl
 
 action_letters : (action : Action) → list_all is_letter (action_word action) ≡ true
 action_letters Allow = refl
-action_letters Deny = refl
-action_letters Alarm = refl
-action_letters Fake = refl
-action_letters ReadOnly = refl
+action_letters _ = refl
 
 split_action : (a b : Action) (r s : List ℕ) → is_ended r ≡ true → is_ended s ≡ true → action_word a ++ r ≡ action_word b ++ s → (a ≡ b) × (r ≡ s)
 split_action a b r s hr hs e =

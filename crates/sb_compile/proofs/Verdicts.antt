@@ -7,7 +7,7 @@ use Rattle.sb_call.specs.Arguments.{fits, FittingArgsAreOfTheirKinds}
 use Rattle.sb_call.specs.Tags.{number_of, tag_of, TagsComeBack}
 use Rattle.sb_call.specs.declared.arguments.Arg.{Arg}
 use Rattle.sb_call.specs.declared.tags.CallTag.{CallTag}
-use Rattle.sb_call.specs.declared.tags.CallTag.TheVariants.{Ping, FileCreate, FileOpen, FileQuery, FileRename, PipeCreate, KeyCreate, KeyOpen, EventCreate, EventOpen, HandleClose}
+use Rattle.sb_call.specs.declared.tags.CallTag.TheVariants.{Ping}
 use Rattle.sb_rule.specs.Verdicts.{cond_holds, verdict_by, verdict_by_rule}
 use Rattle.sb_rule.specs.WellMade.{is_well_formed, is_well_made_rule, is_for_readers}
 use Rattle.sb_rule.specs.declared.conditions.Cond.{Cond}
@@ -84,16 +84,7 @@ rules_mean kinds tags tag args (rule ∷ rules) f h =
 
 code_is : (policy : Policy) (tag : CallTag) → code_in (program_of policy) tag ≡ code_of policy.rules tag
 code_is policy Ping = refl
-code_is policy FileCreate = refl
-code_is policy FileOpen = refl
-code_is policy FileQuery = refl
-code_is policy FileRename = refl
-code_is policy PipeCreate = refl
-code_is policy KeyCreate = refl
-code_is policy KeyOpen = refl
-code_is policy EventCreate = refl
-code_is policy EventOpen = refl
-code_is policy HandleClose = refl
+code_is policy _ = refl
 
 pub rules_formed : (rules : List Rule) → list_all is_well_made_rule rules ≡ true → list_all is_formed rules ≡ true
 rules_formed [] h = refl

@@ -111,8 +111,8 @@ fn judge_each(rules: &RuleCodes, args: &[Arg]) -> Verdict
     Verdict::NoRule
 }
 
-// The verdict of the first of the rules that an index leaves which holds. It is no part of the code for a single rule, which needs
-// no room for a set.
+// The verdict of the first rule that holds among those that an index leaves. It is not inlined, so that the verdict of a single rule
+// has no frame for a set.
 #[inline(never)]
 fn judge_by(rules: &RuleCodes, index: &Index, args: &[Arg]) -> Verdict
     requires indexed { IsIndexed rules.now (Some index.now) }

@@ -10,7 +10,7 @@ ghost use Rattle.sb_opcode.specs.Records.{kind_of, opcode_of};
 ghost use Rattle.sb_compile.specs.Listing.{seek_text, number_text, kind_text, word_if, options_text, opcode_line, opcode_lines, code_lines};
 
 use bitflags::Flags;
-use sb_base::{NoMemory, put_decimal, put_hexadecimal, quote_into};
+use sb_base::{NoMemory, QUESTION, SLASH, STAR, put_decimal, put_hexadecimal, quote_into};
 use sb_call::{CallTag, call_word};
 use sb_opcode::{Code, OpKind, Opcode, Options, Records, Seek};
 use sb_rule::Action;
@@ -48,15 +48,15 @@ fn put_seek(out: &mut Vec<u8>, seek: Seek) -> Result<(), NoMemory>
 fn push_cell(units: &mut Vec<u16>, word: u64) -> Result<(), NoMemory>
     ensures { OnOk result (units.new.items ≡ units.old.items ++ cell_text (cell_of word)) }
 {
-    if word == 63 {
-        units.push(47)?;
+    if word == u64::from(QUESTION) {
+        units.push(SLASH)?;
     }
     if word < 65536 {
         units.push(word as u16)?;
     } else if word == 65536 {
-        units.push(63)?;
+        units.push(QUESTION)?;
     } else {
-        units.push(42)?;
+        units.push(STAR)?;
     }
     Ok(())
 }

@@ -7,13 +7,14 @@ ghost use Rattle.sb_rule.specs.declared.policies.Policy.{Policy};
 ghost use Rattle.sb_compile.specs.Compiling.{code_of, code_in, program_of, program_verdict};
 ghost use Rattle.sb_compile.specs.Listing.{code_lines, listing_of};
 ghost use Rattle.sb_compile.specs.Programs.{code_in_call, is_for_tag};
+ghost use Rattle.sb_call.specs.Tags.{number_of};
 
 use crate::call_codes::CallCode;
 use crate::laws::{compiled_code_is_faultless, compiling_keeps_verdicts};
 use crate::listing::put_code;
 use crate::rules::code_of;
 use sb_base::NoMemory;
-use sb_call::{Arg, CallTag, ShortName, every_tag, number_of, tags_and_numbers};
+use sb_call::{Arg, CallTag, ShortName, every_tag, tags_and_numbers};
 use sb_rule::{Verdict, WellMadePolicy};
 use std::alloc::Global;
 use std::marker::Model;
@@ -81,6 +82,13 @@ pub fn compile(alloc: Global, policy: &WellMadePolicy<'_>) -> Result<Program, No
     })
 }
 
+// The number of a call, from 1.
+fn number_of(tag: CallTag) -> usize
+    ensures { result ≡ number_of tag }
+{
+    tag as usize
+}
+
 impl Program {
     /// The verdict of the policy that was compiled: the line and the action of its first rule for the call whose conditions
     /// hold, and `NoRule` if there is none. The arguments must fit the call. Does not allocate.
@@ -101,7 +109,7 @@ impl Program {
         ensures { MatchOption result (code_in self.now tag ≡ []) (λ call. (call.now.code ≡ code_in self.now tag) × (call.now.tag ≡ tag)) }
     {
         tags_and_numbers();
-        match self.calls.get(number_of(tag) as usize - 1) {
+        match self.calls.get(number_of(tag) - 1) {
             Some(Some(call)) => Some(call),
             _ => None,
         }

@@ -16,7 +16,8 @@ use Rattle.sb_core.specs.Threads.{RunAt, first_unfinished}
 use Rattle.sb_core.specs.Worlds.{WorldAt, rounds, run_at, start_world, steps, threads_at}
 use Rattle.sb_core.proofs.Folding.{steps_append}
 use Rattle.sb_core.proofs.Passing.{rounds_are_steps, turns_there}
-use Rattle.sb_core.proofs.RunLaws.{no_run_past, none_of, results_at}
+use Rattle.sb_core.proofs.Numbers.{none_of}
+use Rattle.sb_core.proofs.RunLaws.{no_run_past, results_at}
 use Rattle.sb_core.proofs.Running.{step_keeps}
 use Rattle.sb_core.proofs.Bounds.{ready_sound}
 use Rattle.sb_core.proofs.Starting.{start_run, starts_keep}

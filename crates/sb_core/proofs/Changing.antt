@@ -1,12 +1,12 @@
 -- What a step changes.
-use Rattle.std.proofs.Common.{◌≡◌, ◌≢◌, ◌∙◌, refl, ap, subst, sym, ℕ, ◌<◌, ◌≤◌, Bool, true, false, ltb, ◌==◌, ◌&&◌, if◌then◌else◌, ◌++◌, List, [], length, set, get_or, get_or-set_same, get_or-set_other, None, arith}
+use Rattle.std.proofs.Common.{◌≡◌, ◌≢◌, ◌∙◌, refl, ap, subst, sym, ℕ, ◌<◌, ◌≤◌, Bool, true, false, ltb, ◌==◌, ◌&&◌, ◌++◌, List, [], length, set, get_or, get_or-set_same, get_or-set_other, None, arith}
 use Rattle.std.proofs.lemmas.Bool.Decides.{nat_tests}
 use Rattle.std.proofs.lemmas.List.{append-nil, set_past}
 use Rattle.std.specs.Option.{option_to_list}
 use Rattle.std.specs.Prelude.{slice_index}
 use native.Mathlib.Decide.{ℕ_discrete}
 use Rattle.sb_actor.specs.ThreadTable.{thread_after, thread_plan}
-use Rattle.sb_actor.specs.WorkerStages.{WorkerStage, WorkerAt, Look, Count, End, Copy, Take, Answer, Give, Reply, Ack}
+use Rattle.sb_actor.specs.WorkerStages.{WorkerStage, WorkerAt, Look, Take, Answer, Give, Reply, Ack}
 use Rattle.sb_actor.specs.WorkerTable.{worker_plan}
 use Rattle.sb_actor.specs.declared.acts.Act.{Act}
 use Rattle.sb_actor.specs.declared.acts.Act.TheVariants as act
@@ -15,9 +15,9 @@ use Rattle.sb_statements.specs.declared.results.StmtResult.{StmtResult}
 use Rattle.sb_statements.specs.declared.schedules.Actor.TheVariants.{Thread, Worker}
 use Rattle.sb_statements.specs.declared.scripts.Script.{Script}
 use Rattle.sb_statements.specs.declared.statements.Word.{Word}
-use Rattle.sb_core.specs.Changes.{IsOneMore, is_mark, moves_turn, writes}
+use Rattle.sb_core.specs.Changes.{IsOneMore, moves_turn, writes}
 use Rattle.sb_core.specs.Laws.{StepsChangeLittle}
-use Rattle.sb_core.specs.Shared.{IsActThere, SharedAt, on_word, on_worker}
+use Rattle.sb_core.specs.Shared.{IsActThere, SharedAt, is_answer, on_word, on_worker}
 use Rattle.sb_core.specs.Threads.{RunAt, no_run}
 use Rattle.sb_core.specs.Words.{exchanged, loaded, stored, words_of}
 use Rattle.sb_statements.specs.Words.{place_of}
@@ -42,24 +42,15 @@ module _ (words : List (List ℕ)) (t : ℕ) (word : Word) (there : t < length w
   store_else : (value i : ℕ) → place_of word ≢ i → slice_index (stored (words_of words t) word value) i ≡ slice_index (words_of words t) i
   store_else value i n = get_or-set_other (words_of words t) (place_of word) i value 0 (λ e. n (sym e))
 
-  chosen_else : (b : Bool) (to i : ℕ) → place_of word ≢ i
-      → slice_index (if b then stored (words_of words t) word to else words_of words t) i ≡ slice_index (words_of words t) i
-  chosen_else true to i n = store_else to i n
-  chosen_else false to i n = refl
-
 -- a step on words
 word_else : (s : SharedAt) (a : Act) → IsActThere s.words a → (t i : ℕ) → writes a t i ≡ false
     → slice_index (words_of (on_word s a).shared.words t) i ≡ slice_index (words_of s.words t) i
-word_else s (act.Load target word) h t i e = refl
 word_else s (act.Store target word value) h t i e =
     unwritten s.words target word h.listed (stored (words_of s.words target) word value) (store_else s.words target word h.listed value) t i e
 word_else s (act.Exchange target word from to) h t i e =
-    unwritten s.words target word h.listed (exchanged (words_of s.words target) word from to)
-    (chosen_else s.words target word h.listed (loaded (words_of s.words target) word == from) to) t i e
-word_else s act.Take h t i e = refl
-word_else s act.Answer h t i e = refl
-word_else s act.Give h t i e = refl
-word_else s act.Idle h t i e = refl
+    let value = exchanged (loaded (words_of s.words target) word) from to in
+    unwritten s.words target word h.listed (stored (words_of s.words target) word value) (store_else s.words target word h.listed value) t i e
+word_else s _ h t i e = refl
 
 -- no result more
 as_it_was : (xs : List StmtResult) → IsOneMore xs xs
@@ -75,60 +66,28 @@ module _ (script : Script) (w : WorldAt) (t : ℕ) (x : WorkerAt) where
 
   worker_words : (stage : WorkerStage) → IsActThere w.shared.words (worker_plan (at_this stage)) → (u i : ℕ) → writes (worker_plan (at_this stage)) u i ≡ false
       → slice_index (words_of (shared_after stage).words u) i ≡ slice_index (words_of w.shared.words u) i
-  worker_words Look h u i e = refl
-  worker_words Count h u i e = refl
-  worker_words (End count) h u i e = refl
-  worker_words (Copy count end words) h u i e = refl
-  worker_words (Take taken) h u i e = refl
-  worker_words (Answer taken) h u i e = refl
-  worker_words (Give taken reply) h u i e = refl
   worker_words (Reply taken reply at) h u i e = word_else w.shared (worker_plan (at_this (Reply taken reply at))) h u i e
   worker_words (Ack taken reply) h u i e = word_else w.shared (worker_plan (at_this (Ack taken reply))) h u i e
+  worker_words _ h u i e = refl
 
   worker_sizes : (stage : WorkerStage) → IsActThere w.shared.words (worker_plan (at_this stage)) → (u : ℕ)
       → length (words_of (shared_after stage).words u) ≡ length (words_of w.shared.words u)
-  worker_sizes Look h u = refl
-  worker_sizes Count h u = refl
-  worker_sizes (End count) h u = refl
-  worker_sizes (Copy count end words) h u = refl
-  worker_sizes (Take taken) h u = refl
-  worker_sizes (Answer taken) h u = refl
-  worker_sizes (Give taken reply) h u = refl
   worker_sizes (Reply taken reply at) h u = (word_keeps w.shared (worker_plan (at_this (Reply taken reply at))) h).sizes u
   worker_sizes (Ack taken reply) h u = (word_keeps w.shared (worker_plan (at_this (Ack taken reply))) h).sizes u
+  worker_sizes _ h u = refl
 
   worker_turn : (stage : WorkerStage) → moves_turn (worker_plan (at_this stage)) ≡ false → (shared_after stage).turn ≡ w.shared.turn
-  worker_turn Look e = refl
-  worker_turn Count e = refl
-  worker_turn (End count) e = refl
-  worker_turn (Copy count end words) e = refl
   worker_turn (Take taken) e = absurd (cc)
-  worker_turn (Answer taken) e = refl
   worker_turn (Give taken reply) e = absurd (cc)
-  worker_turn (Reply taken reply at) e = refl
-  worker_turn (Ack taken reply) e = refl
+  worker_turn _ e = refl
 
-  worker_book : (stage : WorkerStage) → is_mark (worker_plan (at_this stage)) ≡ false → (shared_after stage).book ≡ w.shared.book
-  worker_book Look e = refl
-  worker_book Count e = refl
-  worker_book (End count) e = refl
-  worker_book (Copy count end words) e = refl
-  worker_book (Take taken) e = refl
+  worker_book : (stage : WorkerStage) → is_answer (worker_plan (at_this stage)) ≡ false → (shared_after stage).book ≡ w.shared.book
   worker_book (Answer taken) e = absurd (cc)
-  worker_book (Give taken reply) e = refl
-  worker_book (Reply taken reply at) e = refl
-  worker_book (Ack taken reply) e = refl
+  worker_book _ e = refl
 
   worker_book_setting : (stage : WorkerStage) → (shared_after stage).book.setting ≡ w.shared.book.setting
   worker_book_setting Look = refl
-  worker_book_setting Count = refl
-  worker_book_setting (End count) = refl
-  worker_book_setting (Copy count end words) = refl
-  worker_book_setting (Take taken) = refl
-  worker_book_setting (Answer taken) = refl
-  worker_book_setting (Give taken reply) = refl
-  worker_book_setting (Reply taken reply at) = refl
-  worker_book_setting (Ack taken reply) = refl
+  worker_book_setting _ = refl
 
 -- two threads that are not the same have another target or another number
 pub other_run : (w : WorldAt) (t k : ℕ) (y : RunAt) (u j : ℕ) → Thread t k ≢ Thread u j

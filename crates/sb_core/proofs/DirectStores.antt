@@ -17,8 +17,9 @@ use Rattle.sb_statements.specs.declared.scripts.TargetScript.{TargetScript}
 use Rattle.sb_statements.specs.declared.statements.Statement.{Statement}
 use Rattle.sb_statements.specs.declared.statements.Statement.TheVariants as statement
 use Rattle.sb_statements.specs.declared.statements.Word.{Word}
-use Rattle.sb_core.proofs.Naming.{is_same, names}
+use Rattle.sb_core.proofs.Naming.{names}
 use Rattle.sb_core.proofs.Starting.{clean_length, clean_in_list}
+use Rattle.sb_core.proofs.Numbers.{is_same, self_same}
 
 -- one of a list
 any_at : {X : Type 0} (p : X → Bool) (xs : List X) (i : ℕ) (x : X) → slice_get xs i ≡ Some x → p x ≡ true → list_any p xs ≡ true
@@ -66,9 +67,6 @@ module _ (script : Script) where
       let second = parts.1 in
       (grind (arith, nat_tests, first), grind (arith, nat_tests, second))
 
-  self_same : (t : ℕ) → (t == t) ≡ true
-  self_same t = grind (arith, nat_tests)
-
   both : (a b : Bool) → a ≡ true → b ≡ true → (a && b) ≡ true
   both a b e f = rw (e, f) refl
 
@@ -102,5 +100,4 @@ module _ (script : Script) where
       let w = word_parts t word (and_parts (has_word script.targets t word) (is_patience limit) h).0 in
       subst (λ z. (d : Deed) × StrayMay (clean_channels script z) (at word.channel word.at) d × ((n : ℕ) → wrote d (met d n) n ≡ n)) (is_same t u f)
       (stray_wait, is_word_at t word.channel word.at w.0 w.1, λ n. refl)
-  by_hand x loads most (Some (statement.Call tag args)) e h u f = absurd (cc)
-  by_hand x loads most None e h u f = absurd (cc)
+  by_hand x loads most _ e h u f = absurd (cc)

@@ -7,7 +7,7 @@ use Rattle.std.specs.List.{list_all, sum_by}
 use Rattle.std.specs.Prelude.{nat_le, slice_index}
 use native.Mathlib.Decide.{ℕ_discrete}
 use Rattle.sb_actor.specs.Places.{is_call, or_none, statement_at, statements_of, threads_of}
-use Rattle.sb_actor.specs.ThreadStages.{ThreadStage, Try, Fill, Send, Wait, Fetch, Free, Abandon, Stray, Over}
+use Rattle.sb_actor.specs.ThreadStages.{ThreadStage, Try, Wait, Fetch, Free, Abandon}
 use Rattle.sb_book.specs.Histories.{IsHistory, IsLegalFrom, Setting, setting_of, space_after}
 use Rattle.sb_book.specs.Laws.{AnswersKeepHistories}
 use Rattle.sb_book.specs.declared.entries.Entry.{Entry}
@@ -36,6 +36,7 @@ use Rattle.sb_core.proofs.Belonging.{leads_of, of_end, of_run, of_runs}
 use Rattle.sb_core.proofs.Reaching.{good_on}
 use Rattle.sb_core.proofs.RunLaws.{good_start}
 use Rattle.sb_core.proofs.Tallying.{worlds_are_few}
+use Rattle.sb_core.proofs.Numbers.{itself, self_same}
 
 -- ---- sums over the numbers below a limit
 
@@ -74,9 +75,6 @@ in_upto (suc n) i f l = by_place (ℕ_discrete i n) (λ m. in_upto n i f m)
 
 abbrev places : ℕ → (ℕ → ℕ) → (ℕ → ℕ → ℕ) → ℕ
 places n many f = upto n (λ t. upto (many t) (f t))
-
-same_number : (n : ℕ) → (n == n) ≡ true
-same_number n = grind (arith, nat_tests)
 
 other_number : (a b : ℕ) → a ≢ b → (a == b) ≡ false
 other_number a b ne = grind (arith, nat_tests)
@@ -127,7 +125,7 @@ module _ (n : ℕ) (many : ℕ → ℕ) where
   -- and if it is there, one is
   its_place : (u d : ℕ) → u < n → d < many u → 1 ≤ places n many (λ t c. one_if (u == t && d == c))
   its_place u d l m =
-      let one : one_if (u == u && d == d) ≡ 1 = rw (same_number u, same_number d) refl in
+      let one : one_if (u == u && d == d) ≡ 1 = rw (self_same u, self_same d) refl in
       let inner = in_upto (many u) d (λ c. one_if (u == u && d == c)) m in
       let outer = in_upto n u (λ t. upto (many t) (λ c. one_if (u == t && d == c))) l in
       omega (arith, one, inner, outer)
@@ -153,9 +151,6 @@ module _ (n : ℕ) (many : ℕ → ℕ) where
 abbrev IsAtOne : (ℕ → ℕ → ℕ) → Type 0
 IsAtOne f = (u : ℕ) × (d : ℕ) × ((t c : ℕ) → f t c ≤ one_if (u == t && d == c))
 
-itself : (n : ℕ) → n ≤ n
-itself n = omega arith
-
 none_and : (a b : Bool) → one_if (a && false) ≤ one_if b
 none_and true b = omega arith
 none_and false b = omega arith
@@ -178,24 +173,16 @@ readies false false b d e = lit≤ tt
 
 call_at_one : (u : ℕ) (r : CallResult) → IsAtOne (λ t c. one_if (u == t && ends_call c r))
 call_at_one u (call.Reply d reply) = (u, d, λ t c. itself (one_if (u == t && d == c)))
-call_at_one u call.NoChannel = (0, 0, λ t c. none_and (u == t) (0 == t && 0 == c))
-call_at_one u (call.SendLost d found) = (0, 0, λ t c. none_and (u == t) (0 == t && 0 == c))
 call_at_one u (call.Foreign d mark) = (u, d, λ t c. itself (one_if (u == t && d == c)))
 call_at_one u (call.TimedOut d) = (u, d, λ t c. itself (one_if (u == t && d == c)))
+call_at_one u _ = (0, 0, λ t c. none_and (u == t) (0 == t && 0 == c))
 
 -- a result of a statement that made no channel ready
 end_at_one : (u : ℕ) (r : StmtResult) → IsAtOne (λ t c. one_if (u == t && ends_on c r) + 0)
 end_at_one u (result.Call r) = let x = call_at_one u r in (x.0, x.1, λ t c. with_none _ _ (x.2 t c))
-end_at_one u result.Stored = (0, 0, λ t c. with_none _ _ (none_and (u == t) (0 == t && 0 == c)))
-end_at_one u (result.Found n) = (0, 0, λ t c. with_none _ _ (none_and (u == t) (0 == t && 0 == c)))
-end_at_one u (result.Met loads) = (0, 0, λ t c. with_none _ _ (none_and (u == t) (0 == t && 0 == c)))
-end_at_one u (result.Unmet loads) = (0, 0, λ t c. with_none _ _ (none_and (u == t) (0 == t && 0 == c)))
+end_at_one u _ = (0, 0, λ t c. with_none _ _ (none_and (u == t) (0 == t && 0 == c)))
 
 result_at_one : (u : ℕ) (o : Option Statement) (r : StmtResult) → IsAtOne (λ t c. tally_of t c u o r)
-result_at_one u None r = end_at_one u r
-result_at_one u (Some (statement.Call tag args)) r = end_at_one u r
-result_at_one u (Some (statement.Load v word)) r = end_at_one u r
-result_at_one u (Some (statement.Wait v word value most)) r = end_at_one u r
 result_at_one u (Some (statement.Store v word value)) (result.Call r) = end_at_one u (result.Call r)
 result_at_one u (Some (statement.Store v word value)) result.Stored =
     (v, word.channel, λ t c. readies (u == t) (v == t) (word.channel == c) (word.at == 0) (value == 3))
@@ -208,18 +195,15 @@ result_at_one u (Some (statement.Exchange v word from to)) (result.Found n) =
     (v, word.channel, λ t c. readies (u == t) (v == t) (word.channel == c) (word.at == 0) (n == from && to == 3))
 result_at_one u (Some (statement.Exchange v word from to)) (result.Met loads) = end_at_one u (result.Met loads)
 result_at_one u (Some (statement.Exchange v word from to)) (result.Unmet loads) = end_at_one u (result.Unmet loads)
+result_at_one u _ r = end_at_one u r
 
 -- 1 if the present call was handed over
 abbrev handed : ThreadStage → ℕ
-handed (Try d rounds all_abandoned) = 0
-handed (Fill d i) = 0
-handed (Send d) = 0
 handed (Wait d loads) = 1
 handed (Fetch d words) = 1
 handed (Free d words) = 1
 handed (Abandon d) = 1
-handed (Stray loads most) = 0
-handed Over = 0
+handed _ = 0
 
 -- what a thread counts for at most: its results, and its present call
 abbrev weight : RunAt → ℕ
@@ -231,14 +215,7 @@ no_call false = refl
 
 handed_in : (stage : ThreadStage) → handed stage ≤ one_if (is_calling stage)
 handed_in (Try d rounds all_abandoned) = lit≤ tt
-handed_in (Fill d i) = lit≤ tt
-handed_in (Send d) = lit≤ tt
-handed_in (Wait d loads) = lit≤ tt
-handed_in (Fetch d words) = lit≤ tt
-handed_in (Free d words) = lit≤ tt
-handed_in (Abandon d) = lit≤ tt
-handed_in (Stray loads most) = lit≤ tt
-handed_in Over = lit≤ tt
+handed_in _ = lit≤ tt
 
 module _ (n : ℕ) (many : ℕ → ℕ) (script : Script) where
   at_one : (f : ℕ → ℕ → ℕ) → IsAtOne f → places n many f ≤ 1
@@ -263,15 +240,11 @@ module _ (n : ℕ) (many : ℕ → ℕ) (script : Script) where
   no_sent u = let none = no_places n many (λ t c. one_if (u == t && false)) (λ t c. no_call (u == t)) in omega (arith, none)
 
   call_once : (u : ℕ) (stage : ThreadStage) → places n many (λ t c. one_if (u == t && has_sent c stage)) ≤ handed stage
-  call_once u (Try d rounds all_abandoned) = no_sent u
-  call_once u (Fill d i) = no_sent u
-  call_once u (Send d) = no_sent u
   call_once u (Wait d loads) = one_place n many u d
   call_once u (Fetch d words) = one_place n many u d
   call_once u (Free d words) = one_place n many u d
   call_once u (Abandon d) = one_place n many u d
-  call_once u (Stray loads most) = no_sent u
-  call_once u Over = no_sent u
+  call_once u _ = no_sent u
 
   run_once : (x : RunAt) → places n many (λ t c. tally_so_far script t c x) ≤ weight x
   run_once x =

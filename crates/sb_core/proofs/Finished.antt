@@ -7,8 +7,7 @@ use Rattle.sb_actor.specs.Places.{is_finished, is_over, statements_of}
 use Rattle.sb_statements.specs.declared.scripts.Script.{Script}
 use Rattle.sb_core.specs.Kept.{IsAtStatement, IsRunning}
 use Rattle.sb_core.specs.Threads.{RunAt, are_over, first_unfinished, no_run, or_else, unfinished_of}
-use Rattle.sb_core.specs.Worlds.{WorldAt, all_finished, all_over, round, rounds}
-use Rattle.sb_core.proofs.Folding.{rounds_more}
+use Rattle.sb_core.specs.Worlds.{WorldAt, all_finished, all_over}
 
 -- two tests that pass together are the same
 pub same_test : (a b : Bool) → (a ≡ true → b ≡ true) → (b ≡ true → a ≡ true) → a ≡ b
@@ -64,8 +63,3 @@ targets_over script (xs ∷ xss) h =
 
 pub finished_by_stage : (script : Script) (w : WorldAt) → IsRunning script w → all_over w ≡ all_finished script w
 finished_by_stage script w h = targets_over script w.threads h.stands
-
--- so a round is made if a thread is not over
-pub rounds_busy : (n m : ℕ) (script : Script) (w : WorldAt) → IsRunning script w → n ≡ suc m → all_over w ≡ false
-    → rounds n script w ≡ rounds m script (round script w)
-rounds_busy n m script w running e h = rounds_more n m script w e (sym (finished_by_stage script w running) ∙ h)

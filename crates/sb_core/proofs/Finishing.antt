@@ -1,5 +1,5 @@
 -- The world of the parts of a run by threads keeps what every world keeps.
-use Rattle.std.proofs.Common.{◌≡◌, ◌∙◌, refl, ap, subst, sym, ℕ, zero, suc, ◌*◌, ◌<◌, ◌≤◌, List, [], ◌∷◌, length, map, get_or, Option, None, Some, slice_get, true, arith}
+use Rattle.std.proofs.Common.{◌≡◌, ◌∙◌, refl, ap, subst, sym, ℕ, zero, suc, ◌*◌, ◌<◌, ◌≤◌, List, [], ◌∷◌, length, map, get_or, None, slice_get, true, arith}
 use Rattle.std.proofs.Math.ListN.{get_or-map}
 use Rattle.sb_actor.specs.Ranges.{IsSoundStage}
 use Rattle.sb_actor.specs.WorkerStages.{WorkerAt, WorkerStage}
@@ -14,6 +14,7 @@ use Rattle.sb_core.specs.Threads.{RunAt}
 use Rattle.sb_core.specs.Worlds.{WorldAt, worker_at}
 use Rattle.sb_core.proofs.Bounds.{few_targets, some_channels}
 use Rattle.sb_core.proofs.There.{channels_from}
+use Rattle.sb_core.proofs.Numbers.{none_some}
 
 pub mapped : {X Y : Type 0} (f : X → Y) (xs : List X) → length (map f xs) ≡ length xs
 mapped f [] = refl
@@ -62,9 +63,6 @@ module _ (law : SoundTargets) (script : Script) (words : List (List ℕ)) (worke
         threads = λ t k l. absurd (no_threads t k l);
       }
     where
-      none_some : (t : ℕ) → ◌≡◌ {A = Option ℕ} None (Some t) → ⊥
-      none_some t e = cc
-
       least : (n : ℕ) → 0 ≤ n
       least n = omega arith
 

@@ -13,7 +13,7 @@ use Rattle.sb_actor.specs.Moves.{at, is_clean, no_call}
 use Rattle.sb_actor.specs.Places.{clean_channels, mark_at, statement_at, statements_of}
 use Rattle.sb_actor.specs.Rule.{Chan, FitsThread, Mid, acked, as_served, calls_of, filling, idle, is_of, owner, place, ready, row, sees, waiting}
 use Rattle.sb_actor.specs.Ties.{thread_place_of}
-use Rattle.sb_actor.specs.WorkerStages.{WorkerStage, WorkerAt, Look, Count, End, Copy, Take, Answer, Give, Reply, Ack}
+use Rattle.sb_actor.specs.WorkerStages.{WorkerStage, WorkerAt, Look}
 use Rattle.sb_actor.specs.WorkerTable.{is_looking}
 use Rattle.sb_actor.specs.Views.{Had, Served, ThreadPlace}
 use Rattle.sb_block.specs.Copies.{mark_of}
@@ -54,6 +54,7 @@ use Rattle.sb_core.proofs.ViewSteps.{RuleLaws}
 use Rattle.sb_core.proofs.Short.{AreShort, legal_short}
 use Rattle.sb_core.proofs.Starting.{clean_length}
 use Rattle.sb_core.proofs.There.{as_many}
+use Rattle.sb_core.proofs.Numbers.{none_of, self_same}
 
 -- a served call, its reply read
 abbrev pub read : Served → Answered
@@ -112,14 +113,7 @@ entry_listed t (x ∷ entries) (suc i) e q f = by_test (x.target == t) refl (ent
 -- a worker that looks has no call in work
 none_in_work : (c : ℕ) (stage : WorkerStage) → is_looking stage ≡ true → in_work c stage ≡ []
 none_in_work c Look e = refl
-none_in_work c Count e = absurd (cc)
-none_in_work c (End count) e = absurd (cc)
-none_in_work c (Copy count end words) e = absurd (cc)
-none_in_work c (Take taken) e = absurd (cc)
-none_in_work c (Answer taken) e = absurd (cc)
-none_in_work c (Give taken reply) e = absurd (cc)
-none_in_work c (Reply taken reply i) e = absurd (cc)
-none_in_work c (Ack taken reply) e = absurd (cc)
+none_in_work c _ e = absurd (cc)
 
 -- what holds of each holds at each place
 each_of : {X : Type 0} (p : X → Bool) (xs : List X) (d : X) → list_all p xs ≡ true → (i : ℕ) → i < length xs → p (get_or xs i d) ≡ true
@@ -266,18 +260,12 @@ module _ (laws : RuleLaws) (targets : SoundTargets) (statements : SoundStatement
         (λ j q. (is.kept.threads e.target j q).its_number) (λ j q. each_over e.target j q) i e q (self_same e.target) cl in
         (one.0, subst (λ n. one.0 < n) (is.runs.threads e.target) one.1, one.2);
   }
-    where
-      self_same : (t : ℕ) → (t == t) ≡ true
-      self_same t = grind (arith, nat_tests)
 
   suit : ResultsSuit script (results_of before.threads)
   suit t k i r e = by_test (ltb k (length (threads_at before t))) refl
     where
       found : slice_get (run_at before t k).results i ≡ Some r
       found = sym (results_at before.threads t k i) ∙ e
-
-      none_of : (i : ℕ) (r : StmtResult) → ◌≡◌ {A = Option StmtResult} (slice_get [] i) (Some r) → ⊥
-      none_of i r e = cc
 
       by_test : (b : Bool) → ltb k (length (threads_at before t)) ≡ b
           → (s : Statement) × (statement_at script t k i ≡ Some s) × Suits (clean_channels script t) (mark_at k i) s r

@@ -1,5 +1,5 @@
 -- Folds of steps, one step at a time.
-use Rattle.std.proofs.Common.{◌≡◌, ℕ, zero, suc, ◌+◌, ◌≤◌, Bool, true, false, List, [], ◌∷◌, replicate, slice_get, refl, sym, ◌∙◌, ◌-◌, ◌<◌, arith, ap}
+use Rattle.std.proofs.Common.{◌≡◌, ℕ, zero, suc, ◌+◌, true, false, List, [], ◌∷◌, replicate, slice_get, refl, sym, ◌∙◌, ◌-◌, ◌<◌, arith, ap}
 use native.Mathlib.Numerals.{unary_clauses}
 use Rattle.sb_statements.specs.Actors.{thread_count}
 use Rattle.sb_statements.specs.declared.schedules.Actor.{Actor}
@@ -48,24 +48,6 @@ rounds_done (suc n) script w h = rw (h, rounds) refl
 pub rounds_more : (n m : ℕ) (script : Script) (w : WorldAt) → n ≡ suc m → all_finished script w ≡ false
     → rounds n script w ≡ rounds m script (round script w)
 rounds_more n m script w e h = rw e (rw (h, rounds) refl)
-
--- the first rounds, and then the others
-rounds_joined : (k n m : ℕ) (script : Script) (w : WorldAt) → n ≡ k + m → rounds n script w ≡ rounds m script (rounds k script w)
-rounds_joined zero n m script w e = ap (λ z. rounds z script w) (omega (arith, e))
-rounds_joined (suc k) n m script w e = by_test (all_finished script w) refl (rounds_joined k (k + m) m script (round script w) refl)
-  where
-    by_test : (b : Bool) → all_finished script w ≡ b → rounds (k + m) script (round script w) ≡ rounds m script (rounds k script (round script w))
-        → rounds n script w ≡ rounds m script (rounds (suc k) script w)
-    by_test true h later =
-        rounds_done n script w h ∙ (sym (rounds_done m script w h) ∙ ap (rounds m script) (sym (rounds_done (suc k) script w h)))
-    by_test false h later =
-        rounds_more n (k + m) script w (omega (arith, e)) h ∙ (later ∙ ap (rounds m script) (sym (rounds_more (suc k) k script w refl h)))
-
-pub rounds_on : (n k : ℕ) (script : Script) (w v : WorldAt) → k ≤ n → v ≡ rounds k script w → rounds (n - k) script v ≡ rounds n script w
-rounds_on n k script w v l e = ap (rounds (n - k) script) e ∙ sym (rounds_joined k n (n - k) script w (omega (arith, l)))
-
-pub rounds_then : (k m : ℕ) (script : Script) (w v : WorldAt) → v ≡ rounds k script w → rounds m script v ≡ rounds (k + m) script w
-rounds_then k m script w v e = ap (rounds m script) e ∙ sym (rounds_joined k (k + m) m script w refl)
 
 -- a settled world makes no more passes
 pub drained_done : (n : ℕ) (w : WorldAt) → is_settled w ≡ true → drained_by n w ≡ w

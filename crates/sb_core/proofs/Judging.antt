@@ -5,7 +5,7 @@ use Rattle.std.proofs.lemmas.List.{append-nil}
 use Rattle.std.specs.Prelude.{nat_le}
 use Rattle.sb_actor.specs.Acts.{turn_in}
 use Rattle.sb_actor.specs.Places.{statements_of}
-use Rattle.sb_actor.specs.ThreadStages.{ThreadStage, Try, Fill, Send, Wait, Fetch, Free, Abandon, Stray, Over}
+use Rattle.sb_actor.specs.ThreadStages.{ThreadStage, Over}
 use Rattle.sb_actor.specs.WorkerStages.{WorkerStage, WorkerAt}
 use Rattle.sb_actor.specs.WorkerStages as worker
 use Rattle.sb_actor.specs.WorkerTable.{worker_after, worker_plan}
@@ -30,16 +30,13 @@ judged : (t channels c : ℕ) (stage : WorkerStage) (seen : Observation) (taken 
     → (is_load (worker_plan (record { target = t; channels = channels; channel = c; stage = stage })) ≡ false)
     × ((copy_in (worker_after (record { target = t; channels = channels; channel = c; stage = stage }) seen).stage ≡ Some taken)
     ⊎ ((worker_after (record { target = t; channels = channels; channel = c; stage = stage }) seen).stage ≡ worker.Look))
-judged t channels c worker.Look seen taken e = absurd (cc)
-judged t channels c worker.Count seen taken e = absurd (cc)
-judged t channels c (worker.End count) seen taken e = absurd (cc)
-judged t channels c (worker.Copy count end words) seen taken e = absurd (cc)
 judged t channels c (worker.Take copy) seen taken e = (refl, inl (one_copy (turn_in seen) (worker.Answer copy) (worker.Take copy) taken e e))
 judged t channels c (worker.Answer copy) seen taken e = (refl, inl e)
 judged t channels c (worker.Give copy reply) seen taken e = (refl, inl e)
 judged t channels c (worker.Reply copy reply at) seen taken e =
     (refl, inl (one_copy (at == 11) (worker.Ack copy reply) (worker.Reply copy reply (at + 1)) taken e e))
 judged t channels c (worker.Ack copy reply) seen taken e = (refl, inr refl)
+judged t channels c _ seen taken e = absurd (cc)
 
 pub copies_are_judged : CopiesAreJudged
 copies_are_judged w seen taken e = judged w.target w.channels w.channel w.stage seen taken e
@@ -60,15 +57,8 @@ copies_are_answered script w target taken e = at_stage (worker_at w target) (wor
 
 -- a stage after the last statement
 pub over_is : (stage : ThreadStage) → is_over stage ≡ true → stage ≡ Over
-over_is (Try c rounds all_abandoned) e = absurd (cc)
-over_is (Fill c i) e = absurd (cc)
-over_is (Send c) e = absurd (cc)
-over_is (Wait c loads) e = absurd (cc)
-over_is (Fetch c words) e = absurd (cc)
-over_is (Free c words) e = absurd (cc)
-over_is (Abandon c) e = absurd (cc)
-over_is (Stray loads most) e = absurd (cc)
 over_is Over e = refl
+over_is _ e = absurd (cc)
 
 -- nothing is after the end of a list
 pub none_behind : {X : Type 0} (xs : List X) (i : ℕ) → nat_le (length xs) i ≡ true → is_none (slice_get xs i) ≡ true

@@ -12,7 +12,7 @@ use Rattle.sb_block.specs.Copies.{Copied, copied, is_copy, is_end, mark_of}
 use Rattle.sb_block.specs.Packing.{offset_of}
 use Rattle.sb_book.specs.Histories.{reply_of, target_decision}
 use Rattle.sb_book.specs.declared.decisions.Decision.{Decision}
-use Rattle.sb_book.specs.declared.decisions.Decision.TheVariants.{Refused, Denied, Faked, Performed}
+use Rattle.sb_book.specs.declared.decisions.Decision.TheVariants.{Refused}
 use Rattle.sb_kernel.specs.Namespaces.{Space}
 use Rattle.sb_statements.specs.declared.statements.Word.{Word}
 use Rattle.sb_core.specs.Kept.{IsRunOf, IsWorkerOf, IsWorld, channels_at, has_turn, is_holder}
@@ -21,7 +21,8 @@ use Rattle.sb_core.specs.Words.{exchanged, loaded, stored, words_of}
 use Rattle.sb_statements.specs.Words.{place_of}
 use Rattle.sb_core.specs.Worlds.{WorldAt, no_worker, run_at, threads_at, worker_at, worker_goes, worker_step}
 use Rattle.sb_core.proofs.Sets.{set_same, sizes_set}
-use Rattle.sb_core.proofs.There.{words_listed}
+use Rattle.sb_core.proofs.There.{its_own, words_listed}
+use Rattle.sb_core.proofs.Numbers.{apart, is_same, none_some, not_same, self_same, some_same}
 
 -- What a step of a target's worker leaves that the world needs: the setting and the sizes of the words as they were, the worker at one of its
 -- channels with its numbers in range, and the turn with it exactly if its stage says so, and else with whom it was
@@ -105,9 +106,7 @@ module _ (w : WorldAt) (t : ℕ) (y : WorkerAt) (s : SharedAt) (kept : IsWorld w
 -- a reply has the mark that it was made for
 replies_bear : (ns : Space) (target mark : ℕ) (d : Decision) → (reply_of ns target mark d).mark ≡ mark
 replies_bear ns target mark (Refused f) = refl
-replies_bear ns target mark (Denied tag verdict) = refl
-replies_bear ns target mark (Faked tag line) = refl
-replies_bear ns target mark (Performed tag line action args) = refl
+replies_bear ns target mark _ = refl
 
 -- tests of numbers
 below_ten : (count : ℕ) → nat_lt 9 count ≡ false → count ≤ 9
@@ -128,18 +127,6 @@ all_copied count end words low first last e =
     let few : nat_lt 9 count ≡ false = grind (arith, nat_tests, low) in
     let right : is_end count end ≡ true = grind (arith, nat_tests, first, last) in
     rw (few, right) e
-
-not_same : (x y : ℕ) → (x == y) ≡ false → x ≢ y
-not_same x y e = grind (arith, nat_tests)
-
-is_same : (x y : ℕ) → (x == y) ≡ true → x ≡ y
-is_same x y e = grind (arith, nat_tests)
-
-self_same : (x : ℕ) → (x == x) ≡ true
-self_same x = grind (arith, nat_tests)
-
-apart : (x y : ℕ) → y ≢ x → (x == y) ≡ false
-apart x y n = grind (arith, nat_tests)
 
 -- a worker at a stage, in a world that is kept
 module _ (w : WorldAt) (t channels c : ℕ) (kept : IsWorld w) (there : t < length w.workers) (its : channels ≡ channels_at w t) (within : c < channels) (few : channels ≤ 8)
@@ -252,9 +239,6 @@ module _ (w : WorldAt) (t channels c : ℕ) (kept : IsWorld w) (there : t < leng
         others = λ u n. apart t u n ∙ ap (λ (z : Option ℕ). is_holder z u) (sym e);
         holder = λ u f. subst (λ z. z < length w.workers) (some_same t u f) there;
       })
-    where
-      some_same : (a b : ℕ) → ◌≡◌ {A = Option ℕ} (Some a) (Some b) → a ≡ b
-      some_same a b e = cc
   took taken rule (Some holder) e turn =
       subst (λ (z : Option ℕ). Moves w t (worker_after (at_this (Take taken)) (on_worker (record w.shared { turn = z }) t (at_this (Take taken)) (worker_plan (at_this (Take taken)))).seen)
       (on_worker (record w.shared { turn = z }) t (at_this (Take taken)) (worker_plan (at_this (Take taken)))).shared)
@@ -294,9 +278,6 @@ module _ (w : WorldAt) (t channels c : ℕ) (kept : IsWorld w) (there : t < leng
     others = λ u n. alone w.shared.turn refl turn u n;
     holder = λ u f. absurd (none_some u f);
   }
-    where
-      none_some : (u : ℕ) → ◌≡◌ {A = Option ℕ} None (Some u) → ⊥
-      none_some u e = cc
 
   marks : (taken : Copied) → true ≡ is_holder w.shared.turn t
       → Moves w t (worker_after (at_this (Answer taken)) (on_worker w.shared t (at_this (Answer taken)) (worker_plan (at_this (Answer taken)))).seen)
@@ -314,11 +295,6 @@ module _ (w : WorldAt) (t channels c : ℕ) (kept : IsWorld w) (there : t < leng
     others = λ u n. refl;
     holder = kept.holder;
   }
-
-  -- an exchange keeps the number of words
-  exchanged_size : (b : Bool) (words new : List ℕ) → length new ≡ length words → length (if b then new else words) ≡ length words
-  exchanged_size true words new e = e
-  exchanged_size false words new e = refl
 
   -- each row
   pub step_moves : (stage : WorkerStage) → IsSoundStage stage → has_turn stage ≡ is_holder w.shared.turn t
@@ -341,44 +317,27 @@ module _ (w : WorldAt) (t channels c : ℕ) (kept : IsWorld w) (there : t < leng
   step_moves (Ack taken reply) s turn =
       let words = words_of w.shared.words t in
       let word : Word = record { channel = c; at = 0 } in
-      writes (look_next (at_this Look)) (exchanged words word 3 4) (looks_on turn)
-      (exchanged_size (loaded words word == 3) words (stored words word 4) (length-set words (place_of word) 4))
+      writes (look_next (at_this Look)) (stored words word (exchanged (loaded words word) 3 4)) (looks_on turn)
+      (length-set words (place_of word) (exchanged (loaded words word) 3 4))
 
--- a step of the worker of a target
+-- what a step of the worker of a target leaves
+own_moves : (w : WorldAt) (t : ℕ) → IsWorld w → t < length w.workers
+    → Moves w t (worker_after (worker_at w t) (on_worker w.shared t (worker_at w t) (worker_plan (worker_at w t))).seen) (on_worker w.shared t (worker_at w t) (worker_plan (worker_at w t))).shared
+own_moves w t kept there =
+    let x = kept.workers t there in
+    subst (λ (z : WorkerAt). Moves w t (worker_after z (on_worker w.shared t z (worker_plan z)).seen) (on_worker w.shared t z (worker_plan z)).shared) (sym (its_own w t kept there))
+    (step_moves w t (worker_at w t).channels (worker_at w t).channel kept there x.its_channels x.within x.few x.sized (worker_at w t).stage x.sound x.turn)
+
 pub worker_keeps : (w : WorldAt) (t : ℕ) → IsWorld w → t < length w.workers → IsWorld (worker_step w t)
-worker_keeps w t kept there =
-    let x = worker_at w t in
-    let k = kept.workers t there in
-    by_target x.target x.channels x.channel x.stage k.its_target k
-  where
-    by_target : (target channels channel : ℕ) (stage : WorkerStage) → target ≡ t
-        → IsWorkerOf w t (record { target = target; channels = channels; channel = channel; stage = stage })
-        → IsWorld (worker_goes w t (record { target = target; channels = channels; channel = channel; stage = stage })
-        (on_worker w.shared t (record { target = target; channels = channels; channel = channel; stage = stage })
-        (worker_plan (record { target = target; channels = channels; channel = channel; stage = stage }))))
-    by_target target channels channel stage e k =
-        subst (λ z. IsWorld (worker_goes w t (record { target = z; channels = channels; channel = channel; stage = stage })
-        (on_worker w.shared t (record { target = z; channels = channels; channel = channel; stage = stage })
-        (worker_plan (record { target = z; channels = channels; channel = channel; stage = stage })))))
-        (sym e)
-        (moved w t _ _ kept there (step_moves w t channels channel kept there k.its_channels k.within k.few k.sized stage k.sound k.turn))
+worker_keeps w t kept there = moved w t _ _ kept there (own_moves w t kept there)
 
 -- and the setting of its book, which is all that a judge depends on
 pub worker_setting : (w : WorldAt) (t : ℕ) → IsWorld w → t < length w.workers → (worker_step w t).shared.book.setting ≡ w.shared.book.setting
-worker_setting w t kept there =
-    let k = kept.workers t there in
-    by_target (worker_at w t).target (worker_at w t).channels (worker_at w t).channel (worker_at w t).stage k.its_target k
-  where
-    by_target : (target channels channel : ℕ) (stage : WorkerStage) → target ≡ t
-        → IsWorkerOf w t (record { target = target; channels = channels; channel = channel; stage = stage })
-        → (worker_goes w t (record { target = target; channels = channels; channel = channel; stage = stage })
-        (on_worker w.shared t (record { target = target; channels = channels; channel = channel; stage = stage })
-        (worker_plan (record { target = target; channels = channels; channel = channel; stage = stage })))).shared.book.setting ≡ w.shared.book.setting
-    by_target target channels channel stage e k =
-        subst (λ z. (worker_goes w t (record { target = z; channels = channels; channel = channel; stage = stage })
-        (on_worker w.shared t (record { target = z; channels = channels; channel = channel; stage = stage })
-        (worker_plan (record { target = z; channels = channels; channel = channel; stage = stage })))).shared.book.setting ≡ w.shared.book.setting)
-        (sym e) (step_moves w t channels channel kept there k.its_channels k.within k.few k.sized stage k.sound k.turn).setting
+worker_setting w t kept there = (own_moves w t kept there).setting
+
+-- the number of words of each target
+pub worker_sizes : (w : WorldAt) (t : ℕ) → IsWorld w → t < length w.workers → (u : ℕ) → length (words_of (worker_step w t).shared.words u) ≡ length (words_of w.shared.words u)
+worker_sizes w t kept there u = (own_moves w t kept there).sizes u
 
 -- what a step of a worker left, by the worker that was found
 pub worker_left : (w : WorldAt) (t : ℕ) (x z : WorkerAt) (s : SharedAt) → x ≡ worker_at w t → worker_step_of w.shared t x ≡ record { shared = s; worker = z }

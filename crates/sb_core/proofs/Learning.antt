@@ -68,18 +68,15 @@ module _ (script : Script) (t : ℕ) (words : List ℕ) (calls : List Served) (x
         → Waits script mine stage → Learns script mine stage (slice_index words (act_word (thread_plan script (record mine { stage = stage }))))
     learns (thread.Try c rounds all_abandoned) e b s g w =
         ((λ cl. state_known (h.rule.mids c) (sees c views.worker) (row words c) (h.rule.chans c (cleaned c cl))), all_abandoned_at c all_abandoned e)
-    learns (thread.Fill c i) e b s g w = tt
     learns (thread.Send c) e b s g w = λ cl.
         state_filling (h.rule.mids c) v.number block (sees c views.worker) (row words c) (agrees_at c (Fill c block) e refl cl) (h.rule.chans c (cleaned c cl))
-    learns (thread.Wait c loads) e b s g w = tt
-    learns (thread.Fetch c fetched) e b s g w = tt
     learns (thread.Free c fetched) e b s g w = λ cl.
         let a = agrees_at c (Fetch c block fetched) e refl cl in
         fetched_mark (h.rule.mids c) v.number block fetched (sees c views.worker) (row words c) a.0 a.1 a.3 s.1 (h.rule.chans c (cleaned c cl))
         ∙ ap (λ (z : List ℕ). mark_in z) (sym b)
     learns (thread.Abandon c) e b s g w = g
     learns (thread.Stray loads most) e b s g w = w
-    learns thread.Over e b s g w = tt
+    learns _ e b s g w = tt
 
   pub learned : IsSoundThreadStage (length mine.clean) mine.patience mine.block mine.stage → GivesUp mine.clean mine.stage → Waits script mine mine.stage
       → Learns script mine mine.stage (slice_index words (act_word (thread_plan script mine)))

@@ -15,11 +15,9 @@ pub mod Fitting
 pub mod Folding
 pub mod Judging
 pub mod Keeping
-pub mod Leaping
 pub mod Learning
-pub mod Looking
-pub mod Moving
 pub mod Naming
+pub mod Numbers
 pub mod Opening
 pub mod Passing
 pub mod PlacedUnits
@@ -36,11 +34,9 @@ pub mod Sourcing
 pub mod Starting
 pub mod Stepping
 pub mod Tallying
-pub mod Targets
 pub mod Telling
 pub mod There
 pub mod ThreadKeeping
-pub mod ThreadMoves
 pub mod ThreadRows
 pub mod ThreadRuling
 pub mod ThreadSources
@@ -48,8 +44,6 @@ pub mod ThreadTallies
 pub mod Tidings
 pub mod Tracing
 pub mod ViewSteps
-pub mod Waiting
-pub mod WorkerMoves
 pub mod WorkerRuling
 pub mod WorkerSources
 pub mod WorkerTallies

@@ -17,7 +17,7 @@ use Rattle.sb_statements.specs.Soundness.{channels_of}
 use Rattle.sb_statements.specs.declared.scripts.Script.{Script}
 use Rattle.sb_statements.specs.declared.statements.Statement.{Statement}
 use Rattle.sb_statements.specs.declared.statements.Statement.TheVariants as statement
-use Rattle.std.proofs.Common.{Option, None, Some}
+use Rattle.std.proofs.Common.{Option, Some}
 use Rattle.sb_core.specs.Threads.{RunAt, no_run}
 use Rattle.sb_core.specs.Views.{AreViews, HasView, TargetViews}
 use Rattle.sb_core.specs.Words.{free_channel, free_channels}
@@ -80,11 +80,7 @@ view_at clean (suc n) k l = by_place (ℕ_discrete k n) (view_at clean n k)
 -- each statement begins outside a call
 pub first_place : (mark : ℕ) (o : Option Statement) → thread_place_of (block_of mark o) (first_stage o) ≡ no_call
 first_place mark (Some (statement.Call tag args)) = refl
-first_place mark (Some (statement.Store t word value)) = refl
-first_place mark (Some (statement.Exchange t word from to)) = refl
-first_place mark (Some (statement.Load t word)) = refl
-first_place mark (Some (statement.Wait t word value most)) = refl
-first_place mark None = refl
+first_place mark _ = refl
 
 -- the views of a target at the start
 pub opening_views : RuleLaws → (script : Script) (t n : ℕ)

@@ -1,7 +1,5 @@
 -- Which steps rounds and the drain are.
 use Rattle.std.proofs.Common.{◌≡◌, ◌⊎◌, inl, inr, ◌∙◌, refl, ap, sym, ℕ, zero, suc, ◌+◌, ◌<◌, ◌≤◌, Bool, true, false, List, [], ◌∷◌, length, arith}
-use Rattle.std.specs.Prelude.{nat_lt}
-use Rattle.std.proofs.lemmas.Bool.Decides.{nat_tests}
 use native.Mathlib.Decide.{ℕ_discrete}
 use Rattle.sb_statements.specs.Actors.{is_there}
 use Rattle.sb_statements.specs.declared.schedules.Actor.{Actor}
@@ -16,6 +14,7 @@ use Rattle.sb_core.proofs.Beginning.{IsPassed, as_before, passed_more, passed_se
 use Rattle.sb_core.proofs.Folding.{steps_append}
 use Rattle.sb_core.proofs.Stepping.{all_append, rounds_there, single}
 use Rattle.sb_core.proofs.There.{as_many}
+use Rattle.sb_core.proofs.Numbers.{is_below}
 
 module _ (script : Script) where
   -- a part of a pass, and whole passes
@@ -105,9 +104,6 @@ below_there targets zero l = refl
 below_there targets (suc n) l =
     all_append (is_there targets) (worker_actors n) (Worker n ∷ []) (below_there targets n (omega (arith, l)))
     (single (is_there targets) (Worker n) (is_below n (length targets) (omega (arith, l))))
-  where
-    is_below : (a b : ℕ) → a < b → nat_lt a b ≡ true
-    is_below a b h = grind (arith, nat_tests)
 
 pub turns_there : (targets : List TargetScript) (actors : List Actor) (n : ℕ) → are_there targets actors ≡ true → are_there targets (in_turn n actors) ≡ true
 turns_there targets actors zero h = refl

@@ -10,7 +10,7 @@ use mathlib.Core.Option.{Option, none, some, some-ne-none}
 use Rattle.sb_actor.specs.Moves.{IsBlock, is_clean}
 use Rattle.sb_actor.specs.Places.{clean_channels}
 use Rattle.sb_actor.specs.Rule.{Agrees, Chan, FitsThread, Mid, Row, acked, as_served, calls_of, filling, idle, is_of, owner, place, ready, row, sees, served_at, waiting}
-use Rattle.sb_actor.specs.ThreadStages.{ThreadStage, Try, Fill, Send, Wait, Fetch, Free, Abandon, Stray, Over}
+use Rattle.sb_actor.specs.ThreadStages.{ThreadStage, Fill, Send, Wait, Fetch, Free, Abandon, Stray, Over}
 use Rattle.sb_actor.specs.Ties.{thread_place_of, worker_place_of}
 use Rattle.sb_actor.specs.WorkerStages.{WorkerStage, WorkerAt}
 use Rattle.sb_actor.specs.WorkerStages as worker
@@ -43,6 +43,7 @@ use Rattle.sb_core.proofs.Ruling.{Ruled, ruled_of}
 use Rattle.sb_core.proofs.ViewSteps.{RuleLaws}
 use Rattle.sb_core.proofs.Short.{AreShort, legal_short}
 use Rattle.sb_core.proofs.There.{listed}
+use Rattle.sb_core.proofs.Numbers.{is_same}
 
 -- a worker that has copied from a clean channel is at a whole block there
 pub record Engaged (m : Mid) (taken : Copied) : Type 0 where
@@ -88,57 +89,42 @@ either_whole false m taken reply f h = replied_whole m taken reply f h
 
 -- if a thread is at a channel it is within a call
 calling_at : (block : List ℕ) (stage : ThreadStage) (c : ℕ) → place (thread_place_of block stage) ≡ some c → is_calling stage ≡ true
-calling_at block (Try d rounds all_abandoned) c e = refl
-calling_at block (Fill d i) c e = refl
-calling_at block (Send d) c e = refl
-calling_at block (Wait d loads) c e = refl
-calling_at block (Fetch d words) c e = refl
-calling_at block (Free d words) c e = refl
-calling_at block (Abandon d) c e = refl
 calling_at block (Stray loads most) c e = absurd (some-ne-none c (sym e))
 calling_at block Over c e = absurd (some-ne-none c (sym e))
+calling_at block _ c e = refl
 
 -- and its stage names that channel
 same_channel : (d c : ℕ) → ◌≡◌ {A = Option ℕ} (some d) (some c) → channel_in (Send d) ≡ Some c
 same_channel d c e = let same : d ≡ c = cc in ap Some same
 
 channel_at : (block : List ℕ) (stage : ThreadStage) (c : ℕ) → place (thread_place_of block stage) ≡ some c → channel_in stage ≡ Some c
-channel_at block (Try d rounds all_abandoned) c e = absurd (some-ne-none c (sym e))
 channel_at block (Fill d i) c e = same_channel d c e
 channel_at block (Send d) c e = same_channel d c e
 channel_at block (Wait d loads) c e = same_channel d c e
 channel_at block (Fetch d words) c e = same_channel d c e
 channel_at block (Free d words) c e = same_channel d c e
 channel_at block (Abandon d) c e = same_channel d c e
-channel_at block (Stray loads most) c e = absurd (some-ne-none c (sym e))
-channel_at block Over c e = absurd (some-ne-none c (sym e))
+channel_at block _ c e = absurd (some-ne-none c (sym e))
 
 -- a thread at a channel with a whole block has that block
 ready_block : (k number : ℕ) (block b : List ℕ) (stage : ThreadStage) (m : Mid) → Agrees k (thread_place_of block stage) m → (c : ℕ) → place (thread_place_of block stage) ≡ some c → m ≡ ready number b → b ≡ block
-ready_block k number block b (Try d rounds all_abandoned) m a c e f = absurd (some-ne-none c (sym e))
 ready_block k number block b (Fill d i) m a c e f = absurd (cc)
 ready_block k number block b (Send d) m a c e f = absurd (cc)
 ready_block k number block b (Wait d loads) m a c e f = ⊎_elim (λ h. cc) (λ h. let g = h.1 in absurd (cc)) a
 ready_block k number block b (Fetch d words) m a c e f = let g = a.1 in absurd (cc)
 ready_block k number block b (Free d words) m a c e f = let g = a.1 in absurd (cc)
 ready_block k number block b (Abandon d) m a c e f = ⊎_elim (λ h. cc) (λ h. let g = h.1 in absurd (cc)) a
-ready_block k number block b (Stray loads most) m a c e f = absurd (some-ne-none c (sym e))
-ready_block k number block b Over m a c e f = absurd (some-ne-none c (sym e))
+ready_block k number block b _ m a c e f = absurd (some-ne-none c (sym e))
 
 -- and so has one whose call is served
 acked_block : (k number : ℕ) (block b reply : List ℕ) (stage : ThreadStage) (m : Mid) → Agrees k (thread_place_of block stage) m → (c : ℕ) → place (thread_place_of block stage) ≡ some c → m ≡ acked number b reply → b ≡ block
-acked_block k number block b reply (Try d rounds all_abandoned) m a c e f = absurd (some-ne-none c (sym e))
 acked_block k number block b reply (Fill d i) m a c e f = absurd (cc)
 acked_block k number block b reply (Send d) m a c e f = absurd (cc)
 acked_block k number block b reply (Wait d loads) m a c e f = ⊎_elim (λ h. absurd (cc)) (λ h. let g = h.1 in cc) a
 acked_block k number block b reply (Fetch d words) m a c e f = let g = a.1 in cc
 acked_block k number block b reply (Free d words) m a c e f = let g = a.1 in cc
 acked_block k number block b reply (Abandon d) m a c e f = ⊎_elim (λ h. absurd (cc)) (λ h. let g = h.1 in cc) a
-acked_block k number block b reply (Stray loads most) m a c e f = absurd (some-ne-none c (sym e))
-acked_block k number block b reply Over m a c e f = absurd (some-ne-none c (sym e))
-
-is_same : (x y : ℕ) → (x == y) ≡ true → x ≡ y
-is_same x y e = grind (arith, nat_tests)
+acked_block k number block b reply _ m a c e f = absurd (some-ne-none c (sym e))
 
 -- a target of a world in the rule
 module _ (script : Script) (t : ℕ) (words : List ℕ) (entries : List Entry) (x : WorkerAt) (runs : List RunAt) (views : TargetViews)
@@ -180,12 +166,6 @@ module _ (script : Script) (t : ℕ) (words : List ℕ) (entries : List Entry) (
   engaged q f false e = inl (ap (λ b. cond {A = List Served} b (q ∷ []) []) e)
 
   work_by : (stage : WorkerStage) → x.stage ≡ stage → Work (calls_of clean k (in_work x.channel stage))
-  work_by worker.Look e = inl refl
-  work_by worker.Count e = inl refl
-  work_by (worker.End count) e = inl refl
-  work_by (worker.Copy count end ws) e = inl refl
-  work_by (worker.Take taken) e = inl refl
-  work_by (worker.Answer taken) e = inl refl
   work_by (worker.Give taken reply) e =
       let q : Served = record { channel = x.channel; taken = taken; reply = reply } in
       engaged q
@@ -204,6 +184,7 @@ module _ (script : Script) (t : ℕ) (words : List ℕ) (entries : List Entry) (
       (λ cl. replied_whole (mids x.channel) taken reply (row words x.channel)
       (subst (λ p. Chan (mids x.channel) p (row words x.channel)) (seen_here x.channel refl ∙ ap worker_place_of e) (h.rule.chans x.channel cl)))
       (is_of clean k q) refl
+  work_by _ e = inl refl
 
   -- a served call that the thread has not ended: none, or that of its own block
   abbrev Rest : List Had → Type 0

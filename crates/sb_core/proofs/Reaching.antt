@@ -6,7 +6,7 @@ use Rattle.std.specs.Prelude.{slice_index}
 use Rattle.sb_actor.specs.Places.{statement_at}
 use Rattle.sb_actor.specs.Ranges.{IsSoundStage}
 use Rattle.sb_actor.specs.ThreadTable.{thread_after, thread_plan}
-use Rattle.sb_actor.specs.WorkerStages.{WorkerStage, WorkerAt, Look, Count, End, Copy, Take, Answer, Give, Reply, Ack}
+use Rattle.sb_actor.specs.WorkerStages.{WorkerStage, WorkerAt, Answer}
 use Rattle.sb_actor.specs.WorkerTable.{worker_plan}
 use Rattle.sb_book.specs.Histories.{IsHistory, Setting, target_decision}
 use Rattle.sb_book.specs.Laws.{AnswersKeepHistories}
@@ -29,6 +29,7 @@ use Rattle.sb_core.proofs.Stepping.{Leads, kept_along}
 use Rattle.sb_core.proofs.There.{listed, worker_channel, worker_policy}
 use Rattle.sb_core.proofs.ThreadKeeping.{facts, thread_book}
 use Rattle.sb_core.proofs.ThreadRows.{IsOwnResult}
+use Rattle.sb_core.proofs.Numbers.{none_some, some_same}
 
 -- each result of a thread is that of the statement at its place
 abbrev pub RunFits : Script → ℕ → ℕ → RunAt → Type 0
@@ -57,15 +58,8 @@ module _ (statements : SoundStatements) (answers : AnswersKeepHistories) (script
   pub history_after : (w : WorldAt) (t : ℕ) (x : WorkerAt) → IsHistory w.shared.book → t < length w.shared.book.setting.policies
       → x.channel < slice_index w.shared.book.setting.channels t → (stage : WorkerStage) → IsSoundStage stage
       → IsHistory (on_worker w.shared t (record x { stage = stage }) (worker_plan (record x { stage = stage }))).shared.book
-  history_after w t x h p c Look s = h
-  history_after w t x h p c Count s = h
-  history_after w t x h p c (End count) s = h
-  history_after w t x h p c (Copy count end words) s = h
-  history_after w t x h p c (Take taken) s = h
   history_after w t x h p c (Answer taken) s = answers w.shared.book t x.channel taken (target_decision w.shared.book t taken) p c s refl h
-  history_after w t x h p c (Give taken reply) s = h
-  history_after w t x h p c (Reply taken reply at) s = h
-  history_after w t x h p c (Ack taken reply) s = h
+  history_after w t x h p c _ s = h
 
   good_worker : (w : WorldAt) (t : ℕ) → Good script setting w → t < length w.workers → Good script setting (worker_step w t)
   good_worker w t good there = record {
@@ -90,14 +84,8 @@ module _ (statements : SoundStatements) (answers : AnswersKeepHistories) (script
       last : (ended : Option StmtResult) → IfSome ended (λ r. IsOwnResult script x.thread r) → (i ≡ length x.results) × (ended ≡ Some r)
           → (s : Statement) × (statement_at script t k i ≡ Some s) × (is_result_of s r ≡ true)
       last None own h = absurd (none_some r h.1)
-        where
-          none_some : (r : StmtResult) → ◌≡◌ {A = Option StmtResult} None (Some r) → ⊥
-          none_some r e = cc
       last (Some q) own h =
-          subst (λ z. (s : Statement) × (statement_at script t k i ≡ Some s) × (is_result_of s z ≡ true)) (same q r h.1) (placed x.thread.place q (h.0 ∙ counted) own)
-        where
-          same : (q r : StmtResult) → ◌≡◌ {A = Option StmtResult} (Some q) (Some r) → q ≡ r
-          same q r e = cc
+          subst (λ z. (s : Statement) × (statement_at script t k i ≡ Some s) × (is_result_of s z ≡ true)) (some_same q r h.1) (placed x.thread.place q (h.0 ∙ counted) own)
 
   good_thread : (w : WorldAt) (t k : ℕ) → Good script setting w → is_there script.targets (Thread t k) ≡ true → Good script setting (step script w (Thread t k))
   good_thread w t k good e =

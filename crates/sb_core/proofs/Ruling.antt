@@ -39,6 +39,7 @@ use Rattle.sb_core.proofs.There.{as_many, listed}
 use Rattle.sb_core.proofs.ThreadRuling.{thread_rules, tidings}
 use Rattle.sb_core.proofs.Tidings.{SuitsStatement, Waits, waits_first}
 use Rattle.sb_core.proofs.WorkerRuling.{worker_rules}
+use Rattle.sb_core.proofs.Numbers.{none_of, none_some, some_same}
 
 -- each result of a thread suits the statement at its place
 abbrev pub RunSuits : Script → ℕ → ℕ → RunAt → Type 0
@@ -71,9 +72,6 @@ module _ (laws : RuleLaws) (targets : SoundTargets) (statements : SoundStatement
 
       runs : IsRunning script (start_world policies script)
       runs = starts_running targets statements policies script h
-
-      none_of : (i : ℕ) (r : StmtResult) → ◌≡◌ {A = Option StmtResult} (slice_get [] i) (Some r) → ⊥
-      none_of i r e = cc
 
       opens : (t : ℕ) → t < length script.targets → InRule script (start_world policies script) t
       opens t l =
@@ -115,14 +113,8 @@ module _ (laws : RuleLaws) (targets : SoundTargets) (statements : SoundStatement
         last : (ended : Option StmtResult) → IfSome ended (λ r. SuitsStatement script x.thread r) → (i ≡ length x.results) × (ended ≡ Some r)
             → (s : Statement) × (statement_at script t k i ≡ Some s) × Suits (clean_channels script t) (mark_at k i) s r
         last None own h = absurd (none_some r h.1)
-          where
-            none_some : (r : StmtResult) → ◌≡◌ {A = Option StmtResult} None (Some r) → ⊥
-            none_some r e = cc
         last (Some q) own h =
-            subst (λ z. (s : Statement) × (statement_at script t k i ≡ Some s) × Suits (clean_channels script t) (mark_at k i) s z) (same q r h.1) (placed x.thread.place q (h.0 ∙ counted) own)
-          where
-            same : (q r : StmtResult) → ◌≡◌ {A = Option StmtResult} (Some q) (Some r) → q ≡ r
-            same q r e = cc
+            subst (λ z. (s : Statement) × (statement_at script t k i ≡ Some s) × Suits (clean_channels script t) (mark_at k i) s z) (some_same q r h.1) (placed x.thread.place q (h.0 ∙ counted) own)
 
     ruled_thread : (w : WorldAt) (t k : ℕ) → Ruled script w → is_there script.targets (Thread t k) ≡ true → Ruled script (step script w (Thread t k))
     ruled_thread w t k r e =

@@ -31,10 +31,7 @@ use Rattle.sb_core.proofs.Reaching.{Good, RunFits, good_on}
 use Rattle.sb_core.proofs.Stepping.{leads_drain, leads_run}
 use Rattle.sb_core.proofs.Starting.{start_run, starts_running, starts_world}
 use Rattle.sb_core.proofs.There.{as_many, targets_there}
-
--- before the first step there are no results
-pub none_of : (i : ℕ) (r : StmtResult) → ◌≡◌ {A = Option StmtResult} (slice_get [] i) (Some r) → ⊥
-none_of i r e = cc
+use Rattle.sb_core.proofs.Numbers.{none_of}
 
 module _ (targets_law : SoundTargets) (statements_law : SoundStatements) (policies : List Policy) (script : Script) (prepared : IsReady policies script) where
   pub good_start : Good script (setting_of policies script) (start_world policies script)

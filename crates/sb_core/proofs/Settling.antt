@@ -15,13 +15,14 @@ use Rattle.sb_actor.specs.WorkerTable.{after_copy, after_count, after_end, after
 use Rattle.sb_block.specs.Copies.{Copied, copied, is_end}
 use Rattle.sb_block.specs.Packing.{offset_of}
 use Rattle.sb_core.specs.Drains.{drained_by, is_settled, most_passes, one_pass, pass_below}
-use Rattle.sb_core.specs.Kept.{IsWorkerOf, IsWorld, has_turn, is_holder}
+use Rattle.sb_core.specs.Kept.{IsWorld, has_turn, is_holder}
 use Rattle.sb_core.specs.Laws.{DrainsSettle}
 use Rattle.sb_core.specs.Shared.{on_worker}
 use Rattle.sb_core.specs.Words.{exchanged, has_ready, is_ready_below, loaded, some_ready, stored, words_of}
 use Rattle.sb_core.specs.Worlds.{WorldAt, no_worker, worker_at, worker_goes, worker_step}
 use Rattle.sb_core.proofs.Keeping.{worker_keeps}
-use Rattle.sb_core.proofs.There.{words_listed}
+use Rattle.sb_core.proofs.There.{its_own, words_listed}
+use Rattle.sb_core.proofs.Numbers.{itself, not_same, self_same}
 
 -- the state of channel j is 3
 abbrev is_ready : List ℕ → ℕ → Bool
@@ -65,10 +66,6 @@ left k c words (Answer taken) = 15 + others words k c k
 left k c words (Give taken reply) = 14 + others words k c k
 left k c words (Reply taken reply i) = (13 - i) + others words k c k
 left k c words (Ack taken reply) = 1 + others words k c k
-
--- tests
-not_same : (x y : ℕ) → (x == y) ≡ false → x ≢ y
-not_same x y e = grind (arith, nat_tests)
 
 same_test : (x y : ℕ) → x ≡ y → (x == y) ≡ true
 same_test x y e = grind (arith, nat_tests)
@@ -214,27 +211,17 @@ state_store words c value j n = ap (λ z. z == ready) (get_or-set_other words (a
     apart : at j 0 ≢ at c 0
     apart e = n (omega (arith, e))
 
-chosen_state : (b : Bool) (words : List ℕ) (c value j : ℕ) → j ≢ c → is_ready (if b then set words (at c 0) value else words) j ≡ is_ready words j
-chosen_state true words c value j n = state_store words c value j n
-chosen_state false words c value j n = refl
-
 -- after the exchange from 3 to 4 the state is not 3
 not_ready : (words : List ℕ) (c : ℕ) → at c 0 < length words → (b : Bool) → (get_or words (at c 0) 0 == 3) ≡ b
-    → is_ready (if b then set words (at c 0) 4 else words) c ≡ false
+    → is_ready (set words (at c 0) (if b then 4 else get_or words (at c 0) 0)) c ≡ false
 not_ready words c l true e = ap (λ z. z == 3) (get_or-set_same words (at c 0) 4 0 l)
-not_ready words c l false e = e
+not_ready words c l false e = ap (λ z. z == 3) (get_or-set_same words (at c 0) (get_or words (at c 0) 0) 0 l) ∙ e
 
 -- the step of a worker of a target leaves fewer, if it is not an idle look and does not find the turn held
 abbrev goes_on : Option ℕ → ℕ → WorkerStage → Bool
 goes_on turn n Look = ltb 0 n
-goes_on turn n Count = true
-goes_on turn n (End count) = true
-goes_on turn n (Copy count end copy) = true
 goes_on turn n (Take taken) = is_none turn
-goes_on turn n (Answer taken) = true
-goes_on turn n (Give taken reply) = true
-goes_on turn n (Reply taken reply i) = true
-goes_on turn n (Ack taken reply) = true
+goes_on turn n _ = true
 
 -- what a step leaves: no more, and fewer if it goes on
 pub record Leaves (b : Bool) (after before : ℕ) : Type 0 where
@@ -282,9 +269,6 @@ module _ (w : WorldAt) (t k c : ℕ) (kept : IsWorld w) (there : t < length w.wo
       let falls = looks_fall words k c k within (itself k) e in
       record { low = falls.low; less = λ h. falls.less (above (waiting words k c k) h) }
     where
-      itself : (n : ℕ) → n ≤ n
-      itself n = omega arith
-
       above : (n : ℕ) → ltb 0 n ≡ true → 0 < n
       above n h = grind (arith, nat_tests)
 
@@ -340,15 +324,13 @@ module _ (w : WorldAt) (t k c : ℕ) (kept : IsWorld w) (there : t < length w.wo
       (subst (λ n. Leaves true n ((13 - i) + others words k c k)) (sym (reply_left (i == 11) taken reply i new))
       (fewer true _ ((13 - i) + others words k c k) (by_reply i (others new k c k) low same (i == 11) refl)))
   step_leaves (Ack taken reply) s =
-      let new = exchanged words (record { channel = c; at = 0 }) 3 4 in
+      let value = exchanged (get_or words (at c 0) 0) 3 4 in
+      let new = stored words (record { channel = c; at = 0 }) value in
       let inside : at c 0 < length words = omega (arith, within, sized) in
       let none = not_ready words c inside (get_or words (at c 0) 0 == 3) refl in
-      let low = served words new k c k within (itself k) (λ j n. chosen_state (get_or words (at c 0) 0 == 3) words c 4 j n) none in
+      let low = served words new k c k within (itself k) (λ j n. state_store words c value j n) none in
       subst (λ (ws : List ℕ). Leaves true (waiting ws k ((c + 1) % k) k) (1 + others words k c k)) (sym (written new))
       (fewer true (waiting new k ((c + 1) % k) k) (1 + others words k c k) (omega (arith, low)))
-    where
-      itself : (n : ℕ) → n ≤ n
-      itself n = omega arith
 
 -- how many steps are left to the worker of a target, and to those of the first n
 abbrev left_at : WorldAt → ℕ → ℕ
@@ -372,24 +354,12 @@ gone w t k c stage =
 -- the step of a worker of a target, for that target
 own_left : (w : WorldAt) (t : ℕ) → IsWorld w → t < length w.workers → Leaves (moves w t) (left_at (worker_step w t) t) (left_at w t)
 own_left w t kept there =
-    let x = kept.workers t there in
-    by_target (worker_at w t).target (worker_at w t).channels (worker_at w t).channel (worker_at w t).stage x.its_target x
-  where
-    by_target : (target k c : ℕ) (stage : WorkerStage) → target ≡ t → IsWorkerOf w t (record { target = target; channels = k; channel = c; stage = stage })
-        → Leaves (goes_on w.shared.turn (waiting (words_of w.shared.words t) k c k) stage)
-        (left_at (worker_goes w t (record { target = target; channels = k; channel = c; stage = stage })
-        (on_worker w.shared t (record { target = target; channels = k; channel = c; stage = stage }) (worker_plan (record { target = target; channels = k; channel = c; stage = stage })))) t)
-        (left k c (words_of w.shared.words t) stage)
-    by_target target k c stage e x =
-        subst (λ z. Leaves (goes_on w.shared.turn (waiting (words_of w.shared.words t) k c k) stage)
-        (left_at (worker_goes w t (record { target = z; channels = k; channel = c; stage = stage })
-        (on_worker w.shared t (record { target = z; channels = k; channel = c; stage = stage }) (worker_plan (record { target = z; channels = k; channel = c; stage = stage })))) t)
-        (left k c (words_of w.shared.words t) stage))
-        (sym e)
-        (subst (λ (y : WorkerAt). Leaves (goes_on w.shared.turn (waiting (words_of w.shared.words t) k c k) stage)
-        (left y.channels y.channel (words_of (on_worker w.shared t (record { target = t; channels = k; channel = c; stage = stage }) (worker_plan (record { target = t; channels = k; channel = c; stage = stage }))).shared.words t) y.stage)
-        (left k c (words_of w.shared.words t) stage))
-        (sym (get_or-set_same w.workers t (gone w t k c stage) no_worker there)) (step_leaves w t k c kept there x.within x.few x.sized stage x.sound))
+    let k = kept.workers t there in
+    let x = worker_at w t in
+    subst (λ (z : WorkerAt). Leaves (moves w t) (left_at (worker_goes w t z (on_worker w.shared t z (worker_plan z))) t) (left_at w t)) (sym (its_own w t kept there))
+    (subst (λ (y : WorkerAt). Leaves (moves w t)
+    (left y.channels y.channel (words_of (on_worker w.shared t (record x { target = t }) (worker_plan (record x { target = t }))).shared.words t) y.stage) (left_at w t))
+    (sym (get_or-set_same w.workers t (gone w t x.channels x.channel x.stage) no_worker there)) (step_leaves w t x.channels x.channel kept there k.within k.few k.sized x.stage k.sound))
 
 -- another target's worker and words stay
 pub record Stays (w v : WorldAt) (u : ℕ) : Type 0 where
@@ -397,32 +367,17 @@ pub record Stays (w v : WorldAt) (u : ℕ) : Type 0 where
   pub words : words_of v.shared.words u ≡ words_of w.shared.words u
 
 pub other_stays : (w : WorldAt) (t u : ℕ) → IsWorld w → t < length w.workers → u ≢ t → Stays w (worker_step w t) u
-other_stays w t u kept there n =
-    let x = kept.workers t there in
-    record {
-      worker = get_or-set_other w.workers t u _ no_worker n;
-      words = by_target (worker_at w t).target (worker_at w t).channels (worker_at w t).channel (worker_at w t).stage x.its_target;
-    }
+other_stays w t u kept there n = record {
+  worker = get_or-set_other w.workers t u _ no_worker n;
+  words = subst (λ (z : WorkerAt). words_of (on_worker w.shared t z (worker_plan z)).shared.words u ≡ words_of w.shared.words u) (sym (its_own w t kept there)) (by_stage (worker_at w t).stage);
+}
   where
-    by_stage : (k c : ℕ) (stage : WorkerStage)
-        → words_of (on_worker w.shared t (record { target = t; channels = k; channel = c; stage = stage }) (worker_plan (record { target = t; channels = k; channel = c; stage = stage }))).shared.words u
+    by_stage : (stage : WorkerStage)
+        → words_of (on_worker w.shared t (record (worker_at w t) { target = t; stage = stage }) (worker_plan (record (worker_at w t) { target = t; stage = stage }))).shared.words u
         ≡ words_of w.shared.words u
-    by_stage k c Look = refl
-    by_stage k c Count = refl
-    by_stage k c (End count) = refl
-    by_stage k c (Copy count end copy) = refl
-    by_stage k c (Take taken) = refl
-    by_stage k c (Answer taken) = refl
-    by_stage k c (Give taken reply) = refl
-    by_stage k c (Reply taken reply i) = get_or-set_other w.shared.words t u _ [] n
-    by_stage k c (Ack taken reply) = get_or-set_other w.shared.words t u _ [] n
-
-    by_target : (target k c : ℕ) (stage : WorkerStage) → target ≡ t
-        → words_of (on_worker w.shared t (record { target = target; channels = k; channel = c; stage = stage }) (worker_plan (record { target = target; channels = k; channel = c; stage = stage }))).shared.words u
-        ≡ words_of w.shared.words u
-    by_target target k c stage e =
-        subst (λ z. words_of (on_worker w.shared t (record { target = z; channels = k; channel = c; stage = stage }) (worker_plan (record { target = z; channels = k; channel = c; stage = stage }))).shared.words u
-        ≡ words_of w.shared.words u) (sym e) (by_stage k c stage)
+    by_stage (Reply taken reply i) = get_or-set_other w.shared.words t u _ [] n
+    by_stage (Ack taken reply) = get_or-set_other w.shared.words t u _ [] n
+    by_stage _ = refl
 
 left_stays : (w v : WorldAt) (u : ℕ) → Stays w v u → left_at v u ≡ left_at w u
 left_stays w v u s =
@@ -455,9 +410,6 @@ pub record Passed (w : WorldAt) (n : ℕ) : Type 0 where
 
 passed : (w : WorldAt) (n : ℕ) → IsWorld w → n ≤ length w.workers → Passed w n
 passed w zero kept l = record { kept = kept; many = refl; later = λ u h. record { worker = refl; words = refl }; fallen = itself (total (length w.workers) w) }
-  where
-    itself : (n : ℕ) → n ≤ n
-    itself n = omega arith
 passed w (suc n) kept l =
     let p = passed w n kept (omega (arith, l)) in
     let many = p.many in
@@ -544,14 +496,8 @@ busy_moves w t kept there free busy =
         let found : is_ready_below k (words_of w.shared.words t) ≡ true =
         subst (λ n. is_ready_below n (words_of w.shared.words t) ≡ true) (channels k s) some in
         some_below (waiting (words_of w.shared.words t) k c k) (some_waiting (words_of w.shared.words t) k c k found)
-    by_stage k c Count turn e s b = refl
-    by_stage k c (End count) turn e s b = refl
-    by_stage k c (Copy count end copy) turn e s b = refl
     by_stage k c (Take taken) turn e s b = ap (λ (o : Option ℕ). is_none o) e
-    by_stage k c (Answer taken) turn e s b = refl
-    by_stage k c (Give taken reply) turn e s b = refl
-    by_stage k c (Reply taken reply i) turn e s b = refl
-    by_stage k c (Ack taken reply) turn e s b = refl
+    by_stage k c _ turn e s b = refl
 
 -- an idle worker leaves the turn
 idle_turn : (w : WorldAt) (t : ℕ) → is_idle w t ≡ true → (worker_step w t).shared.turn ≡ w.shared.turn
@@ -577,9 +523,6 @@ pass_turn w (suc n) kept l idle =
     let p = passed w n kept (omega (arith, l)) in
     idle_turn (pass_below n w) n (idle_stays w (pass_below n w) n (p.later n (itself n)) ∙ idle n (omega arith))
     ∙ pass_turn w n kept (omega (arith, l)) (λ u h. idle u (omega (arith, h)))
-  where
-    itself : (n : ℕ) → n ≤ n
-    itself n = omega arith
 
 -- the first of this many workers that is not idle, if there is one
 first_busy : (w : WorldAt) (n : ℕ)
@@ -637,27 +580,15 @@ idle_settled w kept idle =
 unsettled_falls : (w : WorldAt) → IsWorld w → is_settled w ≡ false → total (length w.workers) (one_pass w) < total (length w.workers) w
 unsettled_falls w kept busy = by_turn w.shared.turn refl
   where
-    itself : (n : ℕ) → n ≤ n
-    itself n = omega arith
-
     opposite : (b : Bool) → b ≡ true → b ≡ false → ⊥
     opposite true e f = absurd (cc)
     opposite false e f = absurd (cc)
 
     -- a worker in Answer or Give goes on
     holder_moves : (turn : Option ℕ) (n : ℕ) (stage : WorkerStage) → has_turn stage ≡ true → goes_on turn n stage ≡ true
-    holder_moves turn n Look e = absurd (cc)
-    holder_moves turn n Count e = absurd (cc)
-    holder_moves turn n (End count) e = absurd (cc)
-    holder_moves turn n (Copy count end copy) e = absurd (cc)
-    holder_moves turn n (Take taken) e = absurd (cc)
     holder_moves turn n (Answer taken) e = refl
     holder_moves turn n (Give taken reply) e = refl
-    holder_moves turn n (Reply taken reply i) e = absurd (cc)
-    holder_moves turn n (Ack taken reply) e = absurd (cc)
-
-    self_held : (t : ℕ) → (t == t) ≡ true
-    self_held t = grind (arith, nat_tests)
+    holder_moves turn n _ e = absurd (cc)
 
     by_turn : (turn : Option ℕ) → w.shared.turn ≡ turn → total (length w.workers) (one_pass w) < total (length w.workers) w
     by_turn None e = ⊎_elim (λ idle. absurd (opposite (is_settled w) (idle_settled w kept idle) busy)) (λ f. at_first f.0 f.1 f.2 f.3) (first_busy w (length w.workers))
@@ -672,7 +603,7 @@ unsettled_falls w kept busy = by_turn w.shared.turn refl
     by_turn (Some holder) e =
         let l = kept.holder holder e in
         let held : has_turn (worker_at w holder).stage ≡ true =
-        (kept.workers holder l).turn ∙ (ap (λ turn. is_holder turn holder) e ∙ self_held holder) in
+        (kept.workers holder l).turn ∙ (ap (λ turn. is_holder turn holder) e ∙ self_same holder) in
         let p = passed w holder kept (omega (arith, l)) in
         let s = p.later holder (itself holder) in
         let stays : has_turn (worker_at (pass_below holder w) holder).stage ≡ true = ap (λ (x : WorkerAt). has_turn x.stage) s.worker ∙ held in
@@ -696,9 +627,6 @@ settles (suc n) w kept few =
     let p = passed w (length w.workers) kept (itself (length w.workers)) in
     let less = unsettled_falls w kept e in
     settles n (one_pass w) p.kept (subst (λ m. total m (one_pass w) ≤ n) (sym p.many) (omega (arith, less, few))))
-  where
-    itself : (n : ℕ) → n ≤ n
-    itself n = omega arith
 
 -- no worker has more than 866 steps left
 ahead_few : (k c j : ℕ) (b : Bool) → nat_le c j ≡ b → c < k → j < k → ahead_by b k c j < k
@@ -737,19 +665,10 @@ module _ (words : List ℕ) (k c : ℕ) (within : c < k) (few : k ≤ 8) where
       let rest = others_few k (itself k) in
       by_stage stage s (omega (arith, all, few)) (omega (arith, rest, few))
     where
-      itself : (n : ℕ) → n ≤ n
-      itself n = omega arith
-
       by_stage : (stage : WorkerStage) → IsSoundStage stage → waiting words k c k ≤ 784 → others words k c k ≤ 784 → left k c words stage ≤ 866
       by_stage Look s all rest = omega (arith, all)
-      by_stage Count s all rest = omega (arith, rest)
-      by_stage (End count) s all rest = omega (arith, rest)
       by_stage (Copy count end copy) s all rest = let high = s.2 in omega (arith, rest, high)
-      by_stage (Take taken) s all rest = omega (arith, rest)
-      by_stage (Answer taken) s all rest = omega (arith, rest)
-      by_stage (Give taken reply) s all rest = omega (arith, rest)
-      by_stage (Reply taken reply i) s all rest = omega (arith, rest)
-      by_stage (Ack taken reply) s all rest = omega (arith, rest)
+      by_stage _ s all rest = omega (arith, rest)
 
 total_few : (w : WorldAt) (n : ℕ) → IsWorld w → n ≤ length w.workers → total n w ≤ n * 866
 total_few w zero kept l = lit≤ tt
@@ -764,6 +683,3 @@ drains_settle w kept =
     let all = total_few w (length w.workers) kept (itself (length w.workers)) in
     let few = kept.few in
     settles most_passes w kept (omega (arith, all, few))
-  where
-    itself : (n : ℕ) → n ≤ n
-    itself n = omega arith

@@ -1,6 +1,5 @@
 -- Sources stay, and each step writes values that have one.
 use Rattle.std.proofs.Common.{◌≡◌, ◌⊎◌, inl, inr, ⊎_elim, ◌∙◌, refl, ap, subst, sym, ℕ, zero, suc, ◌+◌, ◌<◌, ◌≤◌, Bool, true, false, ◌==◌, if◌then◌else◌, List, [], ◌∷◌, ◌++◌, length, length-set, set, get_or, take, get_or-set_same, get_or-set_other, Some, slice_get, arith}
-use Rattle.std.proofs.lemmas.List.{set-get_or}
 use Rattle.std.specs.Prelude.{slice_index}
 use native.Mathlib.Decide.{ℕ_discrete}
 use Rattle.sb_actor.specs.Moves.{at}
@@ -13,7 +12,7 @@ use Rattle.sb_statements.specs.declared.scripts.Script.{Script}
 use Rattle.sb_statements.specs.declared.statements.Word.{Word}
 use Rattle.sb_core.specs.Origins.{AreSourcedCopies, AreSourcedWords, HasBlockSource, HasSource, HasStateSource, IsSourcedCopy, IsSourcedReply}
 use Rattle.sb_core.specs.Shared.{IsActThere, SharedAt, on_word}
-use Rattle.sb_core.specs.Words.{loaded, stored, words_of}
+use Rattle.sb_core.specs.Words.{exchanged, loaded, stored, words_of}
 use Rattle.sb_statements.specs.Words.{place_of}
 
 -- an element of a front
@@ -101,13 +100,9 @@ block_source script es t c i x h = record {
 
 -- what a step on a word writes has a source there
 abbrev pub WritesSource : Script → List Entry → Act → Type 0
-WritesSource script es (act.Load t word) = Unit {0}
 WritesSource script es (act.Store t word value) = (word.at < 65) × HasSource script es t word.channel word.at value
 WritesSource script es (act.Exchange t word from to) = (word.at < 65) × HasSource script es t word.channel word.at to
-WritesSource script es act.Take = Unit {0}
-WritesSource script es act.Answer = Unit {0}
-WritesSource script es act.Give = Unit {0}
-WritesSource script es act.Idle = Unit {0}
+WritesSource script es _ = Unit {0}
 
 module _ (script : Script) (es : List Entry) (words : List (List ℕ)) (all : AreSourcedWords script es words) (t : ℕ) (word : Word) (value : ℕ) (here : t < length words)
     (low : word.at < 65) (source : HasSource script es t word.channel word.at value) where
@@ -139,20 +134,14 @@ module _ (script : Script) (es : List Entry) (words : List (List ℕ)) (all : Ar
           subst (λ (ws : List ℕ). at c j < length ws → HasSource script es u c j (slice_index ws (at c j))) (sym (get_or-set_other words t u (stored (words_of words t) word value) [] ne))
           (all u c j l) m
 
-set_as_was : {X : Type 0} (xs : List X) (i : ℕ) (d : X) → set xs i (get_or xs i d) ≡ xs
-set_as_was xs i d = set-get_or xs i d
-
 -- the words after a step
 pub sourced_words : (script : Script) (es : List Entry) (s : SharedAt) (a : Act) → AreSourcedWords script es s.words → IsActThere s.words a → WritesSource script es a
     → AreSourcedWords script es (on_word s a).shared.words
-sourced_words script es s (act.Load t word) all there w = all
 sourced_words script es s (act.Store t word value) all there w = stored_source script es s.words all t word value there.listed w.0 w.1
-sourced_words script es s (act.Exchange t word from to) all there w = by_test (loaded (words_of s.words t) word == from)
+sourced_words script es s (act.Exchange t word from to) all there w =
+    stored_source script es s.words all t word (exchanged (loaded (words_of s.words t) word) from to) there.listed w.0 (by_test (loaded (words_of s.words t) word == from))
   where
-    by_test : (b : Bool) → AreSourcedWords script es (set s.words t (if b then stored (words_of s.words t) word to else words_of s.words t))
-    by_test true = stored_source script es s.words all t word to there.listed w.0 w.1
-    by_test false = subst (λ (z : List (List ℕ)). AreSourcedWords script es z) (sym (set_as_was s.words t [])) all
-sourced_words script es s act.Take all there w = all
-sourced_words script es s act.Answer all there w = all
-sourced_words script es s act.Give all there w = all
-sourced_words script es s act.Idle all there w = all
+    by_test : (b : Bool) → HasSource script es t word.channel word.at (if b then to else loaded (words_of s.words t) word)
+    by_test true = w.1
+    by_test false = all t word.channel word.at w.0 there.inside
+sourced_words script es s _ all there w = all

@@ -1,5 +1,5 @@
 -- The world before the first step keeps what every world keeps, and runs its script.
-use Rattle.std.proofs.Common.{◌≡◌, ◌∙◌, refl, ap, subst, sym, ℕ, zero, suc, ◌+◌, ◌*◌, ◌<◌, ◌≤◌, Bool, true, false, ltb, List, [], ◌∷◌, ◌++◌, length, length-append, map, get_or, Option, None, Some, slice_get, arith}
+use Rattle.std.proofs.Common.{◌≡◌, ◌∙◌, refl, ap, subst, sym, ℕ, zero, suc, ◌+◌, ◌*◌, ◌<◌, ◌≤◌, Bool, true, false, ltb, List, [], ◌∷◌, ◌++◌, length, length-append, map, get_or, slice_get, arith}
 use Rattle.std.proofs.Math.ListN.{get_or-append}
 use Rattle.std.proofs.Math.Seq.{get_or-append_seam}
 use Rattle.std.proofs.lemmas.Bool.Decides.{nat_tests}
@@ -21,6 +21,7 @@ use Rattle.sb_core.specs.Worlds.{WorldAt, first_run, first_runs, first_words, fi
 use Rattle.sb_core.proofs.Bounds.{few_targets, ready_sound, some_channels, some_patience}
 use Rattle.sb_core.proofs.There.{channels_from, listed, sound_at}
 use Rattle.sb_core.proofs.ThreadKeeping.{first_calling, first_over, first_short, first_sound}
+use Rattle.sb_core.proofs.Numbers.{none_some}
 
 -- lists of the first this many
 module _ {X : Type 0} (f : ℕ → X) (g : ℕ → List X) (none : g zero ≡ []) (more : (n : ℕ) → g (suc n) ≡ g n ++ f n ∷ []) where
@@ -155,9 +156,6 @@ module _ (targets_law : SoundTargets) (statements_law : SoundStatements) (polici
     threads = λ t k l. subst (λ x. IsRunOf start t k x) (sym (run_of t k (target_there t k l) l)) (first_of t k (target_there t k l));
   }
     where
-      none_some : (t : ℕ) → ◌≡◌ {A = Option ℕ} None (Some t) → ⊥
-      none_some t e = cc
-
       same_length : (a b : ℕ) → a ≡ b → a ≤ b
       same_length a b e = omega arith
 

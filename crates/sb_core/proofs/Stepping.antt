@@ -1,9 +1,7 @@
 -- Steps of actors that are there lead from one world to another: rounds, passes, the drain, and whole runs do.
 use Rattle.std.proofs.Common.{◌≡◌, ◌∙◌, refl, ap, subst, sym, ℕ, zero, suc, ◌<◌, ◌≤◌, Bool, true, false, List, [], ◌∷◌, ◌++◌, length, length-set, replicate, slice_get, arith}
 use Rattle.std.proofs.lemmas.Bool.{and_parts}
-use Rattle.std.proofs.lemmas.Bool.Decides.{nat_tests}
 use Rattle.std.specs.List.{list_all}
-use Rattle.std.specs.Prelude.{nat_lt}
 use Rattle.sb_rule.specs.declared.policies.Policy.{Policy}
 use Rattle.sb_statements.specs.declared.schedules.Actor.{Actor}
 use Rattle.sb_statements.specs.declared.schedules.Actor.TheVariants.{Thread, Worker}
@@ -18,6 +16,7 @@ use Rattle.sb_core.specs.Runs.{CanRun, played}
 use Rattle.sb_core.specs.Worlds.{WorldAt, all_finished, round, rounds, start_world, step, steps}
 use Rattle.sb_core.proofs.Folding.{steps_append}
 use Rattle.sb_core.proofs.There.{as_many}
+use Rattle.sb_core.proofs.Numbers.{is_below, itself}
 
 -- the actors of a round are there
 pub all_append : (p : Actor → Bool) (xs ys : List Actor) → list_all p xs ≡ true → list_all p ys ≡ true → list_all p (xs ++ ys) ≡ true
@@ -35,21 +34,12 @@ threads_there targets t zero l = refl
 threads_there targets t (suc n) l =
     all_append (is_there targets) (first_threads t n) (Thread t n ∷ []) (threads_there targets t n (omega (arith, l)))
     (single (is_there targets) (Thread t n) (is_below n (thread_count (slice_get targets t)) (omega (arith, l))))
-  where
-    is_below : (a b : ℕ) → a < b → nat_lt a b ≡ true
-    is_below a b h = grind (arith, nat_tests)
 
 target_there : (targets : List TargetScript) (t : ℕ) → t < length targets → are_there targets (target_actors targets t) ≡ true
 target_there targets t l =
     let first : is_there targets (Worker t) ≡ true = is_below t (length targets) l in
     let rest = threads_there targets t (thread_count (slice_get targets t)) (itself (thread_count (slice_get targets t))) in
     rw (first, rest) refl
-  where
-    is_below : (a b : ℕ) → a < b → nat_lt a b ≡ true
-    is_below a b h = grind (arith, nat_tests)
-
-    itself : (n : ℕ) → n ≤ n
-    itself n = omega arith
 
 actors_there : (targets : List TargetScript) (n : ℕ) → n ≤ length targets → are_there targets (first_actors targets n) ≡ true
 actors_there targets zero l = refl
@@ -119,9 +109,6 @@ module _ (script : Script) where
   leads_pass (suc n) w l =
       leads_on w (pass_below n w) (pass_below (suc n) w) (leads_pass n w (omega (arith, l)))
       (leads_by (Worker n ∷ []) (pass_below n w) (single (is_there script.targets) (Worker n) (is_below n (length script.targets) (omega (arith, l)))))
-    where
-      is_below : (a b : ℕ) → a < b → nat_lt a b ≡ true
-      is_below a b h = grind (arith, nat_tests)
 
   leads_passes : (n : ℕ) (w : WorldAt) → length w.workers ≤ length script.targets → Leads script w (drained_by n w)
   leads_passes zero w l = leads_by [] w refl

@@ -1,6 +1,5 @@
 -- In every world of a script the entries on a channel, with one that is owed, are at most what threads handed over there and what made it ready directly.
 use Rattle.std.proofs.Common.{◌≡◌, ◌≢◌, ◌∙◌, refl, ap, subst, sym, ℕ, suc, ◌+◌, ◌*◌, ◌%◌, ◌<◌, ◌≤◌, Bool, true, false, ◌&&◌, ◌==◌, if◌then◌else◌, List, [], ◌∷◌, ◌++◌, length, length-set, map, set, get_or, get_or-set_same, get_or-set_other, Option, None, Some, slice_get, arith}
-use Rattle.std.proofs.lemmas.Bool.Decides.{nat_tests}
 use Rattle.std.proofs.lemmas.List.{set-get_or}
 use Rattle.std.proofs.lemmas.List.Sums.{sum_by-cons, sum_by-set}
 use Rattle.std.specs.Option.{option_to_list}
@@ -26,7 +25,7 @@ use Rattle.sb_statements.specs.declared.schedules.Schedule.{Schedule}
 use Rattle.sb_statements.specs.declared.scripts.Script.{Script}
 use Rattle.sb_statements.specs.declared.statements.Word.{Word}
 use Rattle.sb_core.specs.Drains.{drained}
-use Rattle.sb_core.specs.Kept.{IsRunning, IsWorkerOf, IsWorld}
+use Rattle.sb_core.specs.Kept.{IsRunning, IsWorld}
 use Rattle.sb_core.specs.Reports.{results_of}
 use Rattle.sb_core.specs.Runs.{CanRun, ended, played}
 use Rattle.sb_core.specs.Shared.{IsActThere, SharedAt, on_word, on_worker}
@@ -38,7 +37,7 @@ use Rattle.sb_core.specs.Worlds.{WorldAt, first_worker, first_workers, no_worker
 use Rattle.sb_core.proofs.Bounds.{ready_sound}
 use Rattle.sb_core.proofs.Draining.{drained_threads}
 use Rattle.sb_core.proofs.Judging.{none_behind, over_is}
-use Rattle.sb_core.proofs.Keeping.{step_moves, worker_keeps}
+use Rattle.sb_core.proofs.Keeping.{worker_keeps, worker_sizes}
 use Rattle.sb_core.specs.OfScripts.{IsOfScript}
 use Rattle.sb_core.proofs.Belonging.{leads_of, of_end}
 use Rattle.sb_core.proofs.RunLaws.{each_finished}
@@ -47,12 +46,13 @@ use Rattle.sb_core.proofs.Settling.{other_stays}
 use Rattle.sb_core.proofs.Opening.{opened}
 use Rattle.sb_core.proofs.Stepping.{kept_along}
 use Rattle.sb_core.proofs.Starting.{each_is, free_length, starts_running, starts_world, words_at}
-use Rattle.sb_core.proofs.There.{as_many, listed, targets_there, sound_at, thread_there}
+use Rattle.sb_core.proofs.There.{as_many, its_own, listed, targets_there, sound_at, thread_there}
 use Rattle.sb_core.proofs.ThreadKeeping.{facts, thread_book, word_keeps}
 use Rattle.sb_core.proofs.ThreadSources.{row_writes}
 use Rattle.sb_core.proofs.ThreadTallies.{readies, row_counted, tally_in, tally_more}
 use Rattle.sb_core.proofs.Sourcing.{WritesSource}
 use Rattle.sb_core.proofs.WorkerTallies.{entries_more, looking_owed, owed, owed_by, own_owed}
+use Rattle.sb_core.proofs.Numbers.{apart, self_same}
 
 pub record Tallied (script : Script) (w : WorldAt) : Type 0 where
   pub kept : IsWorld w
@@ -67,65 +67,28 @@ pub own_few : (w : WorldAt) (t : ℕ) → IsWorld w → t < length w.workers →
     ≤ entries_on t c w.shared.book.entries + owed (worker_at w t) c (slice_index (words_of w.shared.words t) (at c 0)))
 own_few w t kept there c inside =
     let k = kept.workers t there in
-    by_target (worker_at w t).target (worker_at w t).channels (worker_at w t).channel (worker_at w t).stage k.its_target k inside
-  where
-    by_target : (target channels channel : ℕ) (stage : WorkerStage) → target ≡ t
-        → IsWorkerOf w t (record { target = target; channels = channels; channel = channel; stage = stage })
-        → at c 0 < length (words_of (on_worker w.shared t (record { target = target; channels = channels; channel = channel; stage = stage })
-        (worker_plan (record { target = target; channels = channels; channel = channel; stage = stage }))).shared.words t)
-        → (at c 0 < length (words_of w.shared.words t))
-        × (entries_on t c (on_worker w.shared t (record { target = target; channels = channels; channel = channel; stage = stage })
-        (worker_plan (record { target = target; channels = channels; channel = channel; stage = stage }))).shared.book.entries
-        + owed (worker_at (worker_goes w t (record { target = target; channels = channels; channel = channel; stage = stage })
-        (on_worker w.shared t (record { target = target; channels = channels; channel = channel; stage = stage })
-        (worker_plan (record { target = target; channels = channels; channel = channel; stage = stage })))) t) c
-        (slice_index (words_of (on_worker w.shared t (record { target = target; channels = channels; channel = channel; stage = stage })
-        (worker_plan (record { target = target; channels = channels; channel = channel; stage = stage }))).shared.words t) (at c 0))
-        ≤ entries_on t c w.shared.book.entries + owed_by (channel == c) stage (slice_index (words_of w.shared.words t) (at c 0)))
-    by_target target channels channel stage e k inside =
-        subst (λ z. at c 0 < length (words_of (on_worker w.shared t (record { target = z; channels = channels; channel = channel; stage = stage })
-        (worker_plan (record { target = z; channels = channels; channel = channel; stage = stage }))).shared.words t)
-        → (at c 0 < length (words_of w.shared.words t))
-        × (entries_on t c (on_worker w.shared t (record { target = z; channels = channels; channel = channel; stage = stage })
-        (worker_plan (record { target = z; channels = channels; channel = channel; stage = stage }))).shared.book.entries
-        + owed (worker_at (worker_goes w t (record { target = z; channels = channels; channel = channel; stage = stage })
-        (on_worker w.shared t (record { target = z; channels = channels; channel = channel; stage = stage })
-        (worker_plan (record { target = z; channels = channels; channel = channel; stage = stage })))) t) c
-        (slice_index (words_of (on_worker w.shared t (record { target = z; channels = channels; channel = channel; stage = stage })
-        (worker_plan (record { target = z; channels = channels; channel = channel; stage = stage }))).shared.words t) (at c 0))
-        ≤ entries_on t c w.shared.book.entries + owed_by (channel == c) stage (slice_index (words_of w.shared.words t) (at c 0)))) (sym e)
-        (λ q.
-        let low : at c 0 < length (words_of w.shared.words t) = subst (λ n. at c 0 < n)
-        ((step_moves w t channels channel kept there k.its_channels k.within k.few k.sized stage k.sound k.turn).sizes t) q in (
-          low,
-          subst (λ (y : WorkerAt). entries_on t c (on_worker w.shared t (record { target = t; channels = channels; channel = channel; stage = stage })
-              (worker_plan (record { target = t; channels = channels; channel = channel; stage = stage }))).shared.book.entries
-              + owed y c (slice_index (words_of (on_worker w.shared t (record { target = t; channels = channels; channel = channel; stage = stage })
-              (worker_plan (record { target = t; channels = channels; channel = channel; stage = stage }))).shared.words t) (at c 0))
-              ≤ entries_on t c w.shared.book.entries + owed_by (channel == c) stage (slice_index (words_of w.shared.words t) (at c 0)))
-              (sym (get_or-set_same w.workers t _ no_worker there)) (own_owed w t channels channel kept there c low stage k.sound),
-        ))
-        inside
+    let x = worker_at w t in
+    let low : at c 0 < length (words_of w.shared.words t) = subst (λ n. at c 0 < n) (worker_sizes w t kept there t) inside in (
+      low,
+      subst (λ (z : WorkerAt). entries_on t c (on_worker w.shared t z (worker_plan z)).shared.book.entries
+          + owed (worker_at (worker_goes w t z (on_worker w.shared t z (worker_plan z))) t) c (slice_index (words_of (on_worker w.shared t z (worker_plan z)).shared.words t) (at c 0))
+          ≤ entries_on t c w.shared.book.entries + owed z c (slice_index (words_of w.shared.words t) (at c 0)))
+          (sym (its_own w t kept there))
+          (subst (λ (y : WorkerAt). entries_on t c (on_worker w.shared t (record x { target = t }) (worker_plan (record x { target = t }))).shared.book.entries
+          + owed y c (slice_index (words_of (on_worker w.shared t (record x { target = t }) (worker_plan (record x { target = t }))).shared.words t) (at c 0))
+          ≤ entries_on t c w.shared.book.entries + owed_by (x.channel == c) x.stage (slice_index (words_of w.shared.words t) (at c 0)))
+          (sym (get_or-set_same w.workers t _ no_worker there)) (own_owed w t x.channels x.channel kept there c low x.stage k.sound)),
+    )
 
 -- the entries of another target
 module _ (w : WorldAt) (t u c : ℕ) (x : WorkerAt) (ne : u ≢ t) where
   pub other_entries : (stage : WorkerStage) → entries_on u c (on_worker w.shared t (record x { stage = stage }) (worker_plan (record x { stage = stage }))).shared.book.entries ≡ entries_on u c w.shared.book.entries
-  other_entries Look = refl
-  other_entries Count = refl
-  other_entries (End count) = refl
-  other_entries (Copy count end words) = refl
-  other_entries (Take taken) = refl
   other_entries (Answer taken) =
       let e = entry_of w.shared.book.space t x.channel taken (target_decision w.shared.book t taken) in
       let more = entries_more u c w.shared.book.entries e in
       let none : one_if (t == u && x.channel == c) ≡ 0 = ap (λ b. one_if (b && x.channel == c)) (apart t u ne) in
       omega (arith, more, none)
-    where
-      apart : (a b : ℕ) → b ≢ a → (a == b) ≡ false
-      apart a b n = grind (arith, nat_tests)
-  other_entries (Give taken reply) = refl
-  other_entries (Reply taken reply i) = refl
-  other_entries (Ack taken reply) = refl
+  other_entries _ = refl
 
 tallied_worker : (script : Script) (w : WorldAt) (t : ℕ) → Tallied script w → t < length w.workers → Tallied script (worker_step w t)
 tallied_worker script w t r there = record {
@@ -154,9 +117,6 @@ same_place : (c : ℕ) (word : Word) → word.at < 65 → place_of word ≡ at c
 same_place c word l e =
     let one : word.channel ≡ c = omega (arith, e, l) in
     (one, omega (arith, e, one))
-
-self_same : (x : ℕ) → (x == x) ≡ true
-self_same x = grind (arith, nat_tests)
 
 is_this : (t u c : ℕ) (word : Word) → u ≡ t → word.channel ≡ c → word.at ≡ 0 → is_state t c u word ≡ true
 is_this t u c word e f g =
@@ -218,17 +178,16 @@ module _ (s : SharedAt) (u c : ℕ) (inside : at c 0 < length (words_of s.words 
       same_test false b d e f = absurd (cc)
 
       by_test : (b : Bool) → (loaded (words_of s.words t) word == from) ≡ b
-          → one_if (slice_index (words_of (set s.words t (if b then stored (words_of s.words t) word to else words_of s.words t)) u) (at c 0) == 3)
+          → one_if (slice_index (words_of (set s.words t (stored (words_of s.words t) word (if b then to else loaded (words_of s.words t) word))) u) (at c 0) == 3)
           ≤ one_if (state == 3) + one_if (is_state u c t word && (loaded (words_of s.words t) word == from && to == 3))
       by_test true e =
           put t word to there.listed w.0 (one_if (is_state u c t word && (loaded (words_of s.words t) word == from && to == 3))) (λ f. same_test (is_state u c t word) (loaded (words_of s.words t) word == from) (to == 3) f e)
       by_test false e =
-          let as_was = ap (λ (z : List (List ℕ)). one_if (slice_index (words_of z u) (at c 0) == 3)) (set-get_or s.words t []) in
+          let as_was = ap (λ (z : List (List ℕ)). one_if (slice_index (words_of z u) (at c 0) == 3))
+          (ap (λ (z : List ℕ). set s.words t z) (set-get_or (words_of s.words t) (place_of word) 0) ∙ set-get_or s.words t []) in
           omega (arith, as_was)
   state_rises script es act.Take there w = more (one_if (state == 3)) 0
-  state_rises script es act.Answer there w = more (one_if (state == 3)) 0
-  state_rises script es act.Give there w = more (one_if (state == 3)) 0
-  state_rises script es act.Idle there w = more (one_if (state == 3)) 0
+  state_rises script es _ there w = more (one_if (state == 3)) 0
 
 -- what is owed grows by no more
 owed_rises : (b : Bool) (stage : WorkerStage) (s after r : ℕ) → one_if (after == 3) ≤ one_if (s == 3) + r → owed_by b stage after ≤ owed_by b stage s + r
@@ -241,7 +200,7 @@ owed_rises true (Answer taken) s after r l = omega arith
 owed_rises true (Give taken reply) s after r l = omega arith
 owed_rises true (Reply taken reply i) s after r l = omega arith
 owed_rises true (Ack taken reply) s after r l = omega arith
-owed_rises false stage s after r l = l
+owed_rises false _ s after r l = l
 
 module _ (targets : SoundTargets) (statements : SoundStatements) (script : Script) where
   tallied_thread : (w : WorldAt) (t k : ℕ) → Tallied script w → is_there script.targets (Thread t k) ≡ true → Tallied script (step script w (Thread t k))

@@ -8,7 +8,7 @@ use Rattle.sb_actor.specs.Ranges.{IsSoundStage, IsSoundThreadStage}
 use Rattle.sb_actor.specs.ThreadStages.{ThreadStage, ThreadAt}
 use Rattle.sb_actor.specs.ThreadStages as thread
 use Rattle.sb_actor.specs.ThreadTable.{stray_row, thread_plan}
-use Rattle.sb_actor.specs.WorkerStages.{WorkerStage, Look, Count, End, Copy, Take, Answer, Give, Reply, Ack}
+use Rattle.sb_actor.specs.WorkerStages.{WorkerStage, WorkerAt, Look, Count, End, Copy, Reply, Ack}
 use Rattle.sb_actor.specs.WorkerTable.{worker_plan}
 use Rattle.sb_statements.specs.Soundness.{SoundStatements, channels_of, is_patience, is_sound, is_statement, has_word}
 use Rattle.sb_statements.specs.declared.scripts.Script.{Script}
@@ -38,11 +38,9 @@ module _ (words : List (List ℕ)) (t channels c : ℕ) (target : t < 8) (few : 
   worker_act Count s = named (1 + 2) (lit≤ tt)
   worker_act (End count) s = named (1 + (15 + count)) (omega (arith, s))
   worker_act (Copy count end copy) s = let high = s.2 in let below = s.3 in named (1 + length copy) (omega (arith, high, below))
-  worker_act (Take taken) s = tt
-  worker_act (Answer taken) s = tt
-  worker_act (Give taken reply) s = tt
   worker_act (Reply taken reply at) s = let below = s.0 in named (1 + (3 + at)) (omega (arith, below))
   worker_act (Ack taken reply) s = named 0 (lit≤ tt)
+  worker_act _ s = tt
 
 -- the worker of a world
 module _ (w : WorldAt) (t : ℕ) (kept : IsWorld w) (there : t < length w.workers) where
@@ -52,11 +50,15 @@ module _ (w : WorldAt) (t : ℕ) (kept : IsWorld w) (there : t < length w.worker
   pub target_low : t < 8
   target_low = let few = kept.few in omega (arith, few, there)
 
+  -- the worker is that of its place
+  pub its_own : worker_at w t ≡ record (worker_at w t) { target = t }
+  its_own = ap (λ z. record (worker_at w t) { target = z }) (kept.workers t there).its_target
+
   pub worker_there : IsActThere w.shared.words (worker_plan (worker_at w t))
   worker_there =
       let x = kept.workers t there in
-      subst (λ z. IsActThere w.shared.words (worker_plan (record { target = z; channels = (worker_at w t).channels; channel = (worker_at w t).channel; stage = (worker_at w t).stage })))
-      (sym x.its_target) (worker_act w.shared.words t (worker_at w t).channels (worker_at w t).channel target_low x.few words_listed x.within x.sized (worker_at w t).stage x.sound)
+      subst (λ (z : WorkerAt). IsActThere w.shared.words (worker_plan z)) (sym its_own)
+      (worker_act w.shared.words t (worker_at w t).channels (worker_at w t).channel target_low x.few words_listed x.within x.sized (worker_at w t).stage x.sound)
 
   pub worker_channel : (worker_at w t).channel < slice_index w.shared.book.setting.channels t
   worker_channel = let x = kept.workers t there in subst (λ z. (worker_at w t).channel < z) x.its_channels x.within
@@ -99,8 +101,7 @@ module _ (script : Script) (w : WorldAt) (has : HasAll script w) where
   stray_act x loads most (Some (statement.Load t word)) h = word_there t word h
   stray_act x loads most (Some (statement.Wait t word v n)) h =
       word_there t word (and_parts (has_word script.targets t word) (is_patience n) h).0
-  stray_act x loads most (Some (statement.Call tag args)) h = tt
-  stray_act x loads most None h = tt
+  stray_act x loads most _ h = tt
 
 -- a statement of a sound script is sound
 module _ (script : Script) (t k i : ℕ) (sound : is_sound script ≡ true) (law : SoundStatements) where

@@ -1,5 +1,5 @@
 -- A step of a thread keeps what every world keeps, and what a world keeps of its script.
-use Rattle.std.proofs.Common.{◌≡◌, ◌∙◌, refl, ap, subst, sym, ℕ, zero, suc, ◌+◌, ◌<◌, ◌≤◌, Bool, true, false, ◌==◌, if◌then◌else◌, List, [], ◌∷◌, ◌++◌, length, length-append, length-set, set, get_or, Option, None, Some, IfSome, is_none, slice_get, lit≤, lit<, arith}
+use Rattle.std.proofs.Common.{◌≡◌, ◌∙◌, refl, ap, subst, sym, ℕ, zero, suc, ◌+◌, ◌<◌, ◌≤◌, Bool, true, List, [], ◌∷◌, ◌++◌, length, length-append, length-set, set, get_or, Option, None, Some, IfSome, is_none, slice_get, lit≤, lit<, arith}
 use Rattle.std.proofs.lemmas.Bool.{and_parts}
 use Rattle.std.proofs.lemmas.Bool.Decides.{nat_tests}
 use Rattle.std.specs.Prelude.{nat_le, slice_index}
@@ -20,9 +20,10 @@ use Rattle.sb_statements.specs.declared.schedules.Actor.TheVariants.{Thread}
 use Rattle.sb_statements.specs.declared.scripts.Script.{Script}
 use Rattle.sb_statements.specs.declared.scripts.TargetScript.{TargetScript}
 use Rattle.sb_statements.specs.declared.statements.Statement.{Statement}
+use Rattle.sb_statements.specs.declared.statements.Word.{Word}
 use Rattle.sb_statements.specs.declared.statements.Statement.TheVariants as statement
 use Rattle.sb_core.specs.Kept.{IsAtStatement, IsRunOf, IsRunning, IsWorkerOf, IsWorld, channels_at, is_calling, is_holder, is_over}
-use Rattle.sb_core.specs.Shared.{IsActThere, SharedAt, on_word}
+use Rattle.sb_core.specs.Shared.{IsActThere, SharedAt, Sets, changed, on_word}
 use Rattle.sb_core.specs.Threads.{HasRoom, RunAt, no_run, thread_step}
 use Rattle.sb_core.specs.Words.{exchanged, loaded, stored, words_of}
 use Rattle.sb_statements.specs.Words.{place_of}
@@ -45,14 +46,12 @@ module _ (targets : List TargetScript) (channels patience mark : ℕ) (some : 0 
     where
       filled : (n : ℕ) → n ≡ length (block tag args mark) → 0 < length (block tag args mark)
       filled n e = omega arith
-  first_sound (Some (statement.Store t word value)) h = lit< tt
-  first_sound (Some (statement.Exchange t word from to)) h = lit< tt
-  first_sound (Some (statement.Load t word)) h = lit< tt
   first_sound (Some (statement.Wait t word value most)) h =
       let bounds = (and_parts (has_word targets t word) (is_patience most) h).1 in
       let low = (and_parts (nat_le 1 most) (nat_le most 1000000) bounds).0 in
       grind (arith, nat_tests, low)
   first_sound None h = tt
+  first_sound _ h = lit< tt
 
   pub first_short : (o : Option Statement) → IfSome o (λ s. is_statement targets s ≡ true) → length (block_of mark o) ≤ 64
   first_short (Some (statement.Call tag args)) h =
@@ -62,27 +61,15 @@ module _ (targets : List TargetScript) (channels patience mark : ℕ) (some : 0 
     where
       at_most : (n : ℕ) → nat_le n 64 ≡ true → n ≤ 64
       at_most n e = grind (arith, nat_tests)
-  first_short (Some (statement.Store t word value)) h = lit≤ tt
-  first_short (Some (statement.Exchange t word from to)) h = lit≤ tt
-  first_short (Some (statement.Load t word)) h = lit≤ tt
-  first_short (Some (statement.Wait t word value most)) h = lit≤ tt
-  first_short None h = lit≤ tt
+  first_short _ h = lit≤ tt
 
 pub first_calling : (o : Option Statement) → is_calling (first_stage o) ≡ is_call o
 first_calling (Some (statement.Call tag args)) = refl
-first_calling (Some (statement.Store t word value)) = refl
-first_calling (Some (statement.Exchange t word from to)) = refl
-first_calling (Some (statement.Load t word)) = refl
-first_calling (Some (statement.Wait t word value most)) = refl
-first_calling None = refl
+first_calling _ = refl
 
 pub first_over : (o : Option Statement) → is_over (first_stage o) ≡ is_none o
 first_over (Some (statement.Call tag args)) = refl
-first_over (Some (statement.Store t word value)) = refl
-first_over (Some (statement.Exchange t word from to)) = refl
-first_over (Some (statement.Load t word)) = refl
-first_over (Some (statement.Wait t word value most)) = refl
-first_over None = refl
+first_over _ = refl
 
 -- What a step of a thread leads to: the same thread, at the same statement or at the beginning of the next, with its numbers in range, and with a
 -- result of its own statement if that ended
@@ -160,31 +147,18 @@ pub record KeepsSizes (s u : SharedAt) : Type 0 where
 same_sizes : (s : SharedAt) → KeepsSizes s s
 same_sizes s = record { book = refl; turn = refl; count = refl; sizes = λ t. refl }
 
-chosen_size : (b : Bool) (words new : List ℕ) → length new ≡ length words → length (if b then new else words) ≡ length words
-chosen_size true words new e = e
-chosen_size false words new e = refl
-
-pub word_keeps : (s : SharedAt) (a : Act) → IsActThere s.words a → KeepsSizes s (on_word s a).shared
-word_keeps s (act.Load t word) h = same_sizes s
-word_keeps s (act.Store t word value) h = record {
+sets_keep : (s : SharedAt) (t : ℕ) (word : Word) (value : ℕ) → t < length s.words → KeepsSizes s (changed s (Sets t word value))
+sets_keep s t word value l = record {
   book = refl;
   turn = refl;
   count = length-set s.words t (stored (words_of s.words t) word value);
-  sizes = sizes_set s.words t (stored (words_of s.words t) word value) h.listed (length-set (words_of s.words t) (place_of word) value);
+  sizes = sizes_set s.words t (stored (words_of s.words t) word value) l (length-set (words_of s.words t) (place_of word) value);
 }
-word_keeps s (act.Exchange t word from to) h =
-    let words = words_of s.words t in
-    record {
-      book = refl;
-      turn = refl;
-      count = length-set s.words t (exchanged words word from to);
-      sizes = sizes_set s.words t (exchanged words word from to) h.listed
-          (chosen_size (loaded words word == from) words (stored words word to) (length-set words (place_of word) to));
-    }
-word_keeps s act.Take h = same_sizes s
-word_keeps s act.Answer h = same_sizes s
-word_keeps s act.Give h = same_sizes s
-word_keeps s act.Idle h = same_sizes s
+
+pub word_keeps : (s : SharedAt) (a : Act) → IsActThere s.words a → KeepsSizes s (on_word s a).shared
+word_keeps s (act.Store t word value) h = sets_keep s t word value h.listed
+word_keeps s (act.Exchange t word from to) h = sets_keep s t word (exchanged (loaded (words_of s.words t) word) from to) h.listed
+word_keeps s _ h = same_sizes s
 
 -- a thread of a world that runs a script
 module _ (script : Script) (w : WorldAt) (t k : ℕ) (kept : IsWorld w) (runs : IsRunning script w) (there : k < length (threads_at w t)) (law : SoundStatements) where

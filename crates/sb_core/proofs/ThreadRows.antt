@@ -1,7 +1,6 @@
 -- What each row of a thread's table leads to: the statement goes on, at a stage of its kind whose numbers are in their ranges, or it ends with
 -- a result of its kind, or nothing changes.
-use Rattle.std.proofs.Common.{◌≡◌, ◌≢◌, refl, sym, ℕ, ◌+◌, ◌<◌, Bool, true, false, ◌&&◌, ◌==◌, if◌then◌else◌, [], ◌∷◌, ◌++◌, length, length-append, Option, None, Some, lit<, arith}
-use Rattle.std.proofs.lemmas.Bool.Decides.{nat_tests}
+use Rattle.std.proofs.Common.{◌≡◌, refl, sym, ℕ, ◌+◌, ◌<◌, Bool, true, false, ◌&&◌, ◌==◌, if◌then◌else◌, [], ◌∷◌, ◌++◌, length, length-append, Option, Some, lit<, arith}
 use Rattle.std.specs.Prelude.{is_none}
 use Rattle.sb_actor.specs.Acts.{value_in, free, busy, acknowledged, abandoned}
 use Rattle.sb_actor.specs.Places.{is_call, mark_at, statement_at}
@@ -19,20 +18,25 @@ use Rattle.sb_statements.specs.declared.statements.Statement.{Statement}
 use Rattle.sb_statements.specs.declared.statements.Statement.TheVariants as statement
 use Rattle.sb_core.specs.Kept.{is_calling, is_over}
 use Rattle.sb_core.specs.Results.{is_result_of}
-
-not_same : (x y : ℕ) → (x == y) ≡ false → x ≢ y
-not_same x y e = grind (arith, nat_tests)
+use Rattle.sb_core.proofs.Numbers.{is_same, not_same}
 
 -- a choice
-pick : (P : ThreadNext → Type 0) (b : Bool) (x y : ThreadNext) → (b ≡ true → P x) → (b ≡ false → P y) → P (if b then x else y)
+pub pick : (P : ThreadNext → Type 0) (b : Bool) (x y : ThreadNext) → (b ≡ true → P x) → (b ≡ false → P y) → P (if b then x else y)
 pick P true x y f g = f refl
 pick P false x y f g = g refl
 
 -- of two stages at which the statement goes on
-pick_stage : (P : ThreadNext → Type 0) (at : ThreadAt) (b : Bool) (s u : ThreadStage) → (b ≡ true → P (goes_on at s)) → (b ≡ false → P (goes_on at u))
+pub pick_stage : (P : ThreadNext → Type 0) (at : ThreadAt) (b : Bool) (s u : ThreadStage) → (b ≡ true → P (goes_on at s)) → (b ≡ false → P (goes_on at u))
     → P (goes_on at (if b then s else u))
 pick_stage P at true s u f g = f refl
 pick_stage P at false s u f g = g refl
+
+-- the same whatever is chosen
+pub either_way : (P : ThreadNext → Type 0) (b : Bool) (x y : ThreadNext) → P x → P y → P (if b then x else y)
+either_way P b x y f g = pick P b x y (λ e. f) (λ e. g)
+
+pub either_stage : (P : ThreadNext → Type 0) (at : ThreadAt) (b : Bool) (s u : ThreadStage) → P (goes_on at s) → P (goes_on at u) → P (goes_on at (if b then s else u))
+either_stage P at b s u f g = pick_stage P at b s u (λ e. f) (λ e. g)
 
 -- the result is one of the thread's present statement
 abbrev pub IsOwnResult : Script → ThreadAt → StmtResult → Type 0
@@ -41,11 +45,7 @@ IsOwnResult script x r = (s : Statement) × (statement_at script x.target x.thre
 -- any result of a call suits a call
 call_result : (o : Option Statement) → is_call o ≡ true → (r : CallResult) → (s : Statement) × (o ≡ Some s) × (is_result_of s (result.Call r) ≡ true)
 call_result (Some (statement.Call tag args)) h r = (statement.Call tag args, refl, refl)
-call_result (Some (statement.Store t word value)) h r = absurd (cc)
-call_result (Some (statement.Exchange t word from to)) h r = absurd (cc)
-call_result (Some (statement.Load t word)) h r = absurd (cc)
-call_result (Some (statement.Wait t word value most)) h r = absurd (cc)
-call_result None h r = absurd (cc)
+call_result _ h r = absurd (cc)
 
 module _ (script : Script) (x : ThreadAt) (P : ThreadNext → Type 0) (some_patience : 0 < x.patience) where
   -- a call goes on, or ends
@@ -104,20 +104,15 @@ module _ (script : Script) (x : ThreadAt) (P : ThreadNext → Type 0) (some_pati
         (λ e. goes (Free c (words ++ value_in seen ∷ [])) (s.0, is_same (length (words ++ value_in seen ∷ [])) 12 e) refl refl)
         (λ e. let ne = not_same (length (words ++ value_in seen ∷ [])) 12 e in
         goes (Fetch c (words ++ value_in seen ∷ [])) (s.0, omega (arith, ne, low, longer)) refl refl)
-      where
-        is_same : (a b : ℕ) → (a == b) ≡ true → a ≡ b
-        is_same a b e = grind (arith, nat_tests)
     call_row (Free c words) s h seen = call_ends (reply_by c (mark_at x.thread x.place) (read_reply words))
     call_row (Abandon c) s h seen = call_ends (call.TimedOut c)
-    call_row (Stray loads most) s h seen = absurd (cc)
-    call_row Over s h seen = absurd (cc)
+    call_row _ s h seen = absurd (cc)
 
   -- a statement that names a word goes on, or ends
   module _ (goes : (loads most : ℕ) → loads < most → P (goes_on x (Stray loads most)))
       (over : (r : StmtResult) → IsOwnResult script x r → P (ends script x r)) where
     by_statement : (o : Option Statement) → statement_at script x.target x.thread x.place ≡ o → is_call o ≡ false → is_none o ≡ false
         → (loads most : ℕ) → loads < most → (seen : Observation) → P ((stray_row script x loads most o).next seen)
-    by_statement (Some (statement.Call tag args)) e h n loads most low seen = absurd (cc)
     by_statement (Some (statement.Store t word value)) e h n loads most low seen = over result.Stored (statement.Store t word value, e, refl)
     by_statement (Some (statement.Exchange t word from to)) e h n loads most low seen =
         over (result.Found (value_in seen)) (statement.Exchange t word from to, e, refl)
@@ -129,7 +124,7 @@ module _ (script : Script) (x : ThreadAt) (P : ThreadNext → Type 0) (some_pati
         (λ f. pick P (loads + 1 == most) (ends script x (result.Unmet most)) (goes_on x (Stray (loads + 1) most))
         (λ g. over (result.Unmet most) (statement.Wait t word value limit, e, refl))
         (λ g. let ne = not_same (loads + 1) most g in goes (loads + 1) most (omega (arith, ne, low))))
-    by_statement None e h n loads most low seen = absurd (cc)
+    by_statement _ e h n loads most low seen = absurd (cc)
 
 -- each row
 pub row_leads : (script : Script) (x : ThreadAt) (P : ThreadNext → Type 0) → 0 < x.patience → (stage : ThreadStage)
@@ -137,20 +132,8 @@ pub row_leads : (script : Script) (x : ThreadAt) (P : ThreadNext → Type 0) →
     → is_calling stage ≡ is_call (statement_at script x.target x.thread x.place) → is_over stage ≡ is_none (statement_at script x.target x.thread x.place)
     → ((s : ThreadStage) → IsSoundThreadStage (length x.clean) x.patience x.block s → is_calling s ≡ is_calling stage → is_over s ≡ is_over stage → P (goes_on x s))
     → ((r : StmtResult) → IsOwnResult script x r → P (ends script x r)) → P (stays x) → (seen : Observation) → P ((thread_row script x stage).next seen)
-row_leads script x P some (Try c rounds all_abandoned) s calls none goes over still seen =
-    call_row script x P some (sym calls) (λ u v a b. goes u v a b) over (Try c rounds all_abandoned) s refl seen
-row_leads script x P some (Fill c i) s calls none goes over still seen =
-    call_row script x P some (sym calls) (λ u v a b. goes u v a b) over (Fill c i) s refl seen
-row_leads script x P some (Send c) s calls none goes over still seen =
-    call_row script x P some (sym calls) (λ u v a b. goes u v a b) over (Send c) s refl seen
-row_leads script x P some (Wait c loads) s calls none goes over still seen =
-    call_row script x P some (sym calls) (λ u v a b. goes u v a b) over (Wait c loads) s refl seen
-row_leads script x P some (Fetch c words) s calls none goes over still seen =
-    call_row script x P some (sym calls) (λ u v a b. goes u v a b) over (Fetch c words) s refl seen
-row_leads script x P some (Free c words) s calls none goes over still seen =
-    call_row script x P some (sym calls) (λ u v a b. goes u v a b) over (Free c words) s refl seen
-row_leads script x P some (Abandon c) s calls none goes over still seen =
-    call_row script x P some (sym calls) (λ u v a b. goes u v a b) over (Abandon c) s refl seen
 row_leads script x P some (Stray loads most) s calls none goes over still seen =
     by_statement script x P some (λ l m low. goes (Stray l m) low refl refl) over (statement_at script x.target x.thread x.place) refl (sym calls) (sym none) loads most s seen
 row_leads script x P some Over s calls none goes over still seen = still
+row_leads script x P some stage s calls none goes over still seen =
+    call_row script x P some (sym calls) (λ u v a b. goes u v a b) over stage s refl seen

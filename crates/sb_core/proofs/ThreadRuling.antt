@@ -1,6 +1,5 @@
 -- A step of a thread keeps the rule of each target, and a result that it ends with suits its statement.
 use Rattle.std.proofs.Common.{◌≡◌, ◌≢◌, ◌∙◌, refl, ap, subst, sym, ℕ, ◌+◌, ◌<◌, Bool, true, false, ◌==◌, if◌then◌else◌, List, [], ◌∷◌, ◌++◌, append_assoc, length, set, get_or-set_same, get_or-set_other, Option, None, Some, IfSome, arith}
-use Rattle.std.proofs.lemmas.Bool.Decides.{nat_tests}
 use Rattle.std.proofs.lemmas.List.{append-nil}
 use Rattle.std.specs.Option.{option_to_list}
 use Rattle.std.specs.Prelude.{slice_index}
@@ -43,6 +42,7 @@ use Rattle.sb_core.proofs.ViewSteps.{RuleLaws, stray_moves, thread_moves, thread
 use Rattle.sb_core.proofs.There.{listed, sound_at, thread_there}
 use Rattle.sb_core.proofs.ThreadKeeping.{facts, thread_book, within}
 use Rattle.sb_core.proofs.Tidings.{Learns, Tidings, Waits, ended_own, own_by, own_in, row_tells}
+use Rattle.sb_core.proofs.Numbers.{apart, self_same}
 
 -- the calls of results with one more
 own_option : Script → ℕ → ℕ → ℕ → Option StmtResult → List OwnCall
@@ -81,8 +81,7 @@ call_deed block (thread.Wait c loads) e = (wait, refl)
 call_deed block (thread.Fetch c words) e = (fetch, refl)
 call_deed block (thread.Free c words) e = (free, refl)
 call_deed block (thread.Abandon c) e = (abandon, refl)
-call_deed block (thread.Stray loads most) e = absurd (cc)
-call_deed block thread.Over e = absurd (cc)
+call_deed block _ e = absurd (cc)
 
 -- what was learned is of the value that the step found
 learned_here : (script : Script) (x : ThreadAt) (stage : ThreadStage) (n : ℕ) (seen : Observation) → (is_calling stage ≡ true → Tells (thread_plan script (record x { stage = stage })) n seen)
@@ -100,11 +99,7 @@ learned_here script x thread.Over n seen t l = l
 -- the mark of a call's block
 marked : (mark : ℕ) (o : Option Statement) → is_call o ≡ true → mark_in (block_of mark o) ≡ mark
 marked mark (Some (statement.Call tag args)) e = refl
-marked mark (Some (statement.Store t word value)) e = absurd (cc)
-marked mark (Some (statement.Exchange t word from to)) e = absurd (cc)
-marked mark (Some (statement.Load t word)) e = absurd (cc)
-marked mark (Some (statement.Wait t word value most)) e = absurd (cc)
-marked mark None e = absurd (cc)
+marked mark _ e = absurd (cc)
 
 -- outside a call a thread's view is outside one before and after the step
 pick_place : (b : Bool) (x y : ThreadNext) → thread_place_of x.thread.block x.thread.stage ≡ no_call → thread_place_of y.thread.block y.thread.stage ≡ no_call
@@ -118,49 +113,30 @@ ends_place script x r = first_place (mark_at x.thread (x.place + 1)) (statement_
 stray_place : (script : Script) (x : ThreadAt) (loads most : ℕ) (o : Option Statement) (seen : Observation) → thread_place_of x.block x.stage ≡ no_call
     → thread_place_of ((stray_row script x loads most o).next seen).thread.block ((stray_row script x loads most o).next seen).thread.stage ≡ no_call
 stray_place script x loads most (Some (statement.Store t word value)) seen e = ends_place script x result.Stored
-stray_place script x loads most (Some (statement.Exchange t word from to)) seen e = ends_place script x (result.Found (value_in seen))
-stray_place script x loads most (Some (statement.Load t word)) seen e = ends_place script x (result.Found (value_in seen))
 stray_place script x loads most (Some (statement.Wait t word value limit)) seen e =
     pick_place (value_in seen == value) (ends script x (result.Met (loads + 1))) (if loads + 1 == most then ends script x (result.Unmet most) else goes_on x (thread.Stray (loads + 1) most))
     (ends_place script x (result.Met (loads + 1)))
     (pick_place (loads + 1 == most) (ends script x (result.Unmet most)) (goes_on x (thread.Stray (loads + 1) most)) (ends_place script x (result.Unmet most)) refl)
 stray_place script x loads most (Some (statement.Call tag args)) seen e = e
 stray_place script x loads most None seen e = e
+stray_place script x loads most _ seen e = ends_place script x (result.Found (value_in seen))
 
 quiet_before : (block : List ℕ) (stage : ThreadStage) → is_calling stage ≡ false → thread_place_of block stage ≡ no_call
-quiet_before block (thread.Try c rounds all_abandoned) e = absurd (cc)
-quiet_before block (thread.Fill c i) e = absurd (cc)
-quiet_before block (thread.Send c) e = absurd (cc)
-quiet_before block (thread.Wait c loads) e = absurd (cc)
-quiet_before block (thread.Fetch c words) e = absurd (cc)
-quiet_before block (thread.Free c words) e = absurd (cc)
-quiet_before block (thread.Abandon c) e = absurd (cc)
 quiet_before block (thread.Stray loads most) e = refl
 quiet_before block thread.Over e = refl
+quiet_before block _ e = absurd (cc)
 
 quiet_after : (script : Script) (x : ThreadAt) (stage : ThreadStage) → is_calling stage ≡ false → (seen : Observation)
     → thread_place_of (thread_after script (record x { stage = stage }) seen).thread.block (thread_after script (record x { stage = stage }) seen).thread.stage ≡ no_call
-quiet_after script x (thread.Try c rounds all_abandoned) e seen = absurd (cc)
-quiet_after script x (thread.Fill c i) e seen = absurd (cc)
-quiet_after script x (thread.Send c) e seen = absurd (cc)
-quiet_after script x (thread.Wait c loads) e seen = absurd (cc)
-quiet_after script x (thread.Fetch c words) e seen = absurd (cc)
-quiet_after script x (thread.Free c words) e seen = absurd (cc)
-quiet_after script x (thread.Abandon c) e seen = absurd (cc)
 quiet_after script x (thread.Stray loads most) e seen =
     stray_place script (record x { stage = thread.Stray loads most }) loads most (statement_at script x.target x.thread x.place) seen refl
 quiet_after script x thread.Over e seen = refl
+quiet_after script x _ e seen = absurd (cc)
 
 quiet_own : (x : ThreadAt) (stage : ThreadStage) → is_calling stage ≡ false → own_by x stage ≡ []
-quiet_own x (thread.Try c rounds all_abandoned) e = absurd (cc)
-quiet_own x (thread.Fill c i) e = absurd (cc)
-quiet_own x (thread.Send c) e = absurd (cc)
-quiet_own x (thread.Wait c loads) e = absurd (cc)
-quiet_own x (thread.Fetch c words) e = absurd (cc)
-quiet_own x (thread.Free c words) e = absurd (cc)
-quiet_own x (thread.Abandon c) e = absurd (cc)
 quiet_own x (thread.Stray loads most) e = refl
 quiet_own x thread.Over e = refl
+quiet_own x _ e = absurd (cc)
 
 module _ (laws : RuleLaws) (law : SoundStatements) (bounds : SoundTargets) (script : Script) (units : HasUnits script) (w : WorldAt) (t k : ℕ) (kept : IsWorld w) (runs : IsRunning script w)
     (all : (u : ℕ) → u < length w.workers → InRule script w u) (there : k < length (threads_at w t))
@@ -217,11 +193,7 @@ module _ (laws : RuleLaws) (law : SoundStatements) (bounds : SoundTargets) (scri
       let low = within (statements_of script y.target y.thread) y.place (statement.Call tag args) e in
       let few = few_statements bounds script (ready_sound runs.policies script runs.ready) y.target y.thread in
       laws.blocks tag args y.thread y.place good (units y.target y.thread y.place tag args e) (omega (arith, low, few))
-  whole_block (Some (statement.Store u word value)) e h = absurd (cc)
-  whole_block (Some (statement.Exchange u word from to)) e h = absurd (cc)
-  whole_block (Some (statement.Load u word)) e h = absurd (cc)
-  whole_block (Some (statement.Wait u word value most)) e h = absurd (cc)
-  whole_block None e h = absurd (cc)
+  whole_block _ e h = absurd (cc)
 
   its_block : is_calling y.stage ≡ true → IsBlock y.thread y.block
   its_block e = subst (λ (b : List ℕ). IsBlock y.thread b) (sym (runs.stands t k there).block) (whole_block here refl (sym (runs.stands t k there).calling ∙ e))
@@ -234,9 +206,6 @@ module _ (laws : RuleLaws) (law : SoundStatements) (bounds : SoundTargets) (scri
       (λ e. tells w.shared plan t (call_names script y t y.stage e ∙ ap (λ u. u == t) its_target ∙ self_same t))
       (learned script t (words_of w.shared.words t) (calls_at t w.shared.book.entries) (worker_at w t) (threads_at w t) (all t worker_here).0 (all t worker_here).1 k there
       (kept.threads t k there).sound gives waits))
-    where
-      self_same : (t : ℕ) → (t == t) ≡ true
-      self_same t = grind (arith, nat_tests)
 
   -- the calls of its results after the step
   more_calls : own_calls script t k z.results ≡ own_calls script t k x.results ++ own_by y y.stage
@@ -271,9 +240,6 @@ module _ (laws : RuleLaws) (law : SoundStatements) (bounds : SoundTargets) (scri
         subst (λ (q : List ℕ). AreViews script t q (calls_at t w.shared.book.entries) (worker_at w t) (set (threads_at w t) k z) m.0)
             (sym (named_words w.shared plan t named act_there)) m.1,
       )
-    where
-      self_same : (t : ℕ) → (t == t) ≡ true
-      self_same t = grind (arith, nat_tests)
 
   -- a target's words, if the thread is outside a call
   hand_words : is_calling y.stage ≡ false → (u : ℕ) → u < length w.workers
@@ -339,9 +305,6 @@ module _ (laws : RuleLaws) (law : SoundStatements) (bounds : SoundTargets) (scri
         subst (λ (q : List ℕ). AreViews script u q (calls_at u w.shared.book.entries) (worker_at w u) (threads_at w u) before.0)
             (sym (other_words w.shared plan u (call_names script y u y.stage e ∙ apart y.target u (λ f. ne (f ∙ its_target))))) before.1,
       )
-    where
-      apart : (a b : ℕ) → b ≢ a → (a == b) ≡ false
-      apart a b n = grind (arith, nat_tests)
   other_rule u ne l false e = hand_words e u l
 
   -- each target

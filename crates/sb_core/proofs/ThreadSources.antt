@@ -25,38 +25,25 @@ use Rattle.sb_core.specs.Kept.{is_calling, is_over}
 use Rattle.sb_core.specs.Origins.{HasBlockSource, HasSource, HasStateSource, IsSourcedReply, Shows, ShowsCall, StoresThere}
 use Rattle.sb_core.proofs.Sourcing.{WritesSource, block_source, state_source}
 use Rattle.sb_core.proofs.WorkerSources.{each_more}
+use Rattle.sb_core.proofs.ThreadRows.{either_stage, either_way}
 
 -- what a thread has fetched has sources
 abbrev pub IsTracedThread : Script → List Entry → ℕ → ThreadStage → Type 0
-IsTracedThread script es t (Try c rounds all_abandoned) = Unit {0}
-IsTracedThread script es t (Fill c i) = Unit {0}
-IsTracedThread script es t (Send c) = Unit {0}
-IsTracedThread script es t (Wait c loads) = Unit {0}
 IsTracedThread script es t (Fetch c words) = (i : ℕ) → i < length words → HasBlockSource script es t c (3 + i) (slice_index words i)
 IsTracedThread script es t (Free c words) = (i : ℕ) → i < length words → HasBlockSource script es t c (3 + i) (slice_index words i)
-IsTracedThread script es t (Abandon c) = Unit {0}
-IsTracedThread script es t (Stray loads most) = Unit {0}
-IsTracedThread script es t Over = Unit {0}
+IsTracedThread script es t _ = Unit {0}
 
 -- what a step found has a source
 abbrev pub FindsAt : Script → List Entry → Option Statement → ℕ → Type 0
 FindsAt script es (Some (statement.Exchange u word from to)) n = HasSource script es u word.channel word.at n
 FindsAt script es (Some (statement.Load u word)) n = HasSource script es u word.channel word.at n
-FindsAt script es (Some (statement.Store u word value)) n = Unit {0}
-FindsAt script es (Some (statement.Wait u word value most)) n = Unit {0}
-FindsAt script es (Some (statement.Call tag args)) n = Unit {0}
-FindsAt script es None n = Unit {0}
+FindsAt script es _ n = Unit {0}
 
 abbrev pub Finds : Script → List Entry → ThreadAt → ThreadStage → ℕ → Type 0
-Finds script es x (Try c rounds all_abandoned) n = Unit {0}
-Finds script es x (Fill c i) n = Unit {0}
 Finds script es x (Send c) n = HasStateSource script x.target c n
-Finds script es x (Wait c loads) n = Unit {0}
 Finds script es x (Fetch c words) n = HasBlockSource script es x.target c (3 + length words) n
-Finds script es x (Free c words) n = Unit {0}
-Finds script es x (Abandon c) n = Unit {0}
 Finds script es x (Stray loads most) n = FindsAt script es (statement_at script x.target x.thread x.place) n
-Finds script es x Over n = Unit {0}
+Finds script es x _ n = Unit {0}
 
 abbrev pub ShowsStatement : Script → List Entry → ThreadAt → StmtResult → Type 0
 ShowsStatement script es x r = (s : Statement) × (statement_at script x.target x.thread x.place ≡ Some s) × Shows script es x.target s r
@@ -67,20 +54,7 @@ pub record Traces (script : Script) (es : List Entry) (x : ThreadAt) (n : Thread
 
 pub traced_first : (script : Script) (es : List Entry) (t : ℕ) (o : Option Statement) → IsTracedThread script es t (first_stage o)
 traced_first script es t (Some (statement.Call tag args)) = tt
-traced_first script es t (Some (statement.Store u word value)) = tt
-traced_first script es t (Some (statement.Exchange u word from to)) = tt
-traced_first script es t (Some (statement.Load u word)) = tt
-traced_first script es t (Some (statement.Wait u word value most)) = tt
-traced_first script es t None = tt
-
--- a choice
-pick : (P : ThreadNext → Type 0) (b : Bool) (x y : ThreadNext) → P x → P y → P (if b then x else y)
-pick P true x y f g = f
-pick P false x y f g = g
-
-pick_stage : (P : ThreadNext → Type 0) (at : ThreadAt) (b : Bool) (s u : ThreadStage) → P (goes_on at s) → P (goes_on at u) → P (goes_on at (if b then s else u))
-pick_stage P at true s u f g = f
-pick_stage P at false s u f g = g
+traced_first script es t _ = tt
 
 -- the extended words of a reply that is read
 ext_length : (words : List ℕ) (n : ℕ) → length words ≡ 12 → length (take (min n 7) (drop 5 words)) ≡ min n 7
@@ -134,11 +108,7 @@ module _ (script : Script) (es : List Entry) (x : ThreadAt) where
 
   call_shows : (o : Option Statement) → here ≡ o → is_call o ≡ true → (r : CallResult) → ShowsCall script es x.target r → ShowsStatement script es x (result.Call r)
   call_shows (Some (statement.Call tag args)) e h r s = (statement.Call tag args, e, s)
-  call_shows (Some (statement.Store t word value)) e h r s = absurd (cc)
-  call_shows (Some (statement.Exchange t word from to)) e h r s = absurd (cc)
-  call_shows (Some (statement.Load t word)) e h r s = absurd (cc)
-  call_shows (Some (statement.Wait t word value most)) e h r s = absurd (cc)
-  call_shows None e h r s = absurd (cc)
+  call_shows _ e h r s = absurd (cc)
 
   module _ (calls : is_call here ≡ true) where
     ended_call : (r : CallResult) → ShowsCall script es x.target r → Traces script es x (ends script x (result.Call r))
@@ -146,12 +116,12 @@ module _ (script : Script) (es : List Entry) (x : ThreadAt) where
 
     on_round : (rounds : ℕ) (all_abandoned : Bool) → Traces script es x (after_round script x rounds all_abandoned)
     on_round rounds all_abandoned =
-        pick (Traces script es x) all_abandoned (ends script x (result.Call call.NoChannel))
+        either_way (Traces script es x) all_abandoned (ends script x (result.Call call.NoChannel))
         (if has_clean x.clean then goes_on x (Try 0 rounds true) else (if rounds + 1 == x.patience then ends script x (result.Call call.NoChannel) else goes_on x (Try 0 (rounds + 1) true)))
         (ended_call call.NoChannel tt)
-        (pick (Traces script es x) (has_clean x.clean) (goes_on x (Try 0 rounds true))
+        (either_way (Traces script es x) (has_clean x.clean) (goes_on x (Try 0 rounds true))
         (if rounds + 1 == x.patience then ends script x (result.Call call.NoChannel) else goes_on x (Try 0 (rounds + 1) true)) (on (Try 0 rounds true) tt)
-        (pick (Traces script es x) (rounds + 1 == x.patience) (ends script x (result.Call call.NoChannel)) (goes_on x (Try 0 (rounds + 1) true)) (ended_call call.NoChannel tt)
+        (either_way (Traces script es x) (rounds + 1 == x.patience) (ends script x (result.Call call.NoChannel)) (goes_on x (Try 0 (rounds + 1) true)) (ended_call call.NoChannel tt)
         (on (Try 0 (rounds + 1) true) tt)))
 
     reply_shown : (c : ℕ) (words : List ℕ) → length words ≡ 12 → IsTracedThread script es x.target (Free c words) → (b : Bool)
@@ -163,66 +133,54 @@ module _ (script : Script) (es : List Entry) (x : ThreadAt) where
         → Finds script es x stage (value_in seen) → Traces script es x ((thread_row script x stage).next seen)
     call_traces (Try c rounds all_abandoned) s h w seen l =
         let found = value_in seen in
-        pick (Traces script es x) (found == free) (goes_on x (Fill c 0))
+        either_way (Traces script es x) (found == free) (goes_on x (Fill c 0))
         (if c + 1 == length x.clean then after_round script x rounds (all_abandoned && found == abandoned) else goes_on x (Try (c + 1) rounds (all_abandoned && found == abandoned))) (on (Fill c 0) tt)
-        (pick (Traces script es x) (c + 1 == length x.clean) (after_round script x rounds (all_abandoned && found == abandoned)) (goes_on x (Try (c + 1) rounds (all_abandoned && found == abandoned)))
+        (either_way (Traces script es x) (c + 1 == length x.clean) (after_round script x rounds (all_abandoned && found == abandoned)) (goes_on x (Try (c + 1) rounds (all_abandoned && found == abandoned)))
         (on_round rounds (all_abandoned && found == abandoned)) (on (Try (c + 1) rounds (all_abandoned && found == abandoned)) tt))
-    call_traces (Fill c i) s h w seen l = pick_stage (Traces script es x) x (i + 1 == length x.block) (Send c) (Fill c (i + 1)) (on (Send c) tt) (on (Fill c (i + 1)) tt)
+    call_traces (Fill c i) s h w seen l = either_stage (Traces script es x) x (i + 1 == length x.block) (Send c) (Fill c (i + 1)) (on (Send c) tt) (on (Fill c (i + 1)) tt)
     call_traces (Send c) s h w seen l =
-        pick (Traces script es x) (value_in seen == busy) (goes_on x (Wait c 0)) (ends script x (result.Call (call.SendLost c (value_in seen)))) (on (Wait c 0) tt)
+        either_way (Traces script es x) (value_in seen == busy) (goes_on x (Wait c 0)) (ends script x (result.Call (call.SendLost c (value_in seen)))) (on (Wait c 0) tt)
         (ended_call (call.SendLost c (value_in seen)) l)
     call_traces (Wait c loads) s h w seen l =
-        pick_stage (Traces script es x) x (value_in seen == acknowledged) (Fetch c [])
+        either_stage (Traces script es x) x (value_in seen == acknowledged) (Fetch c [])
         (if is_clean_at x c then Wait c loads else (if loads + 1 == x.patience then Abandon c else Wait c (loads + 1))) (on (Fetch c []) (λ i q. absurd (omega (arith, q))))
-        (pick_stage (Traces script es x) x (is_clean_at x c) (Wait c loads) (if loads + 1 == x.patience then Abandon c else Wait c (loads + 1)) (on (Wait c loads) tt)
-        (pick_stage (Traces script es x) x (loads + 1 == x.patience) (Abandon c) (Wait c (loads + 1)) (on (Abandon c) tt) (on (Wait c (loads + 1)) tt)))
+        (either_stage (Traces script es x) x (is_clean_at x c) (Wait c loads) (if loads + 1 == x.patience then Abandon c else Wait c (loads + 1)) (on (Wait c loads) tt)
+        (either_stage (Traces script es x) x (loads + 1 == x.patience) (Abandon c) (Wait c (loads + 1)) (on (Abandon c) tt) (on (Wait c (loads + 1)) tt)))
     call_traces (Fetch c words) s h w seen l =
         let more = each_more (λ i z. HasBlockSource script es x.target c (3 + i) z) words (value_in seen) w l in
-        pick_stage (Traces script es x) x (length (words ++ value_in seen ∷ []) == 12) (Free c (words ++ value_in seen ∷ [])) (Fetch c (words ++ value_in seen ∷ []))
+        either_stage (Traces script es x) x (length (words ++ value_in seen ∷ []) == 12) (Free c (words ++ value_in seen ∷ [])) (Fetch c (words ++ value_in seen ∷ []))
         (on (Free c (words ++ value_in seen ∷ [])) more) (on (Fetch c (words ++ value_in seen ∷ [])) more)
     call_traces (Free c words) s h w seen l =
         ended_call (if slice_index words 0 == mark_at x.thread x.place then call.Reply c (read_reply words) else call.Foreign c (slice_index words 0))
         (reply_shown c words s.1 w (slice_index words 0 == mark_at x.thread x.place))
     call_traces (Abandon c) s h w seen l = ended_call (call.TimedOut c) tt
-    call_traces (Stray loads most) s h w seen l = absurd (cc)
-    call_traces Over s h w seen l = absurd (cc)
+    call_traces _ s h w seen l = absurd (cc)
 
   stray_traces : (loads most : ℕ) (o : Option Statement) → here ≡ o → is_call o ≡ false → is_none o ≡ false → (seen : Observation) → FindsAt script es o (value_in seen)
       → Traces script es x ((stray_row script x loads most o).next seen)
-  stray_traces loads most (Some (statement.Call tag args)) e h n seen l = absurd (cc)
   stray_traces loads most (Some (statement.Store t word value)) e h n seen l = over result.Stored (statement.Store t word value, e, tt)
   stray_traces loads most (Some (statement.Exchange t word from to)) e h n seen l = over (result.Found (value_in seen)) (statement.Exchange t word from to, e, l)
   stray_traces loads most (Some (statement.Load t word)) e h n seen l = over (result.Found (value_in seen)) (statement.Load t word, e, l)
   stray_traces loads most (Some (statement.Wait t word value limit)) e h n seen l =
-      pick (Traces script es x) (value_in seen == value) (ends script x (result.Met (loads + 1)))
+      either_way (Traces script es x) (value_in seen == value) (ends script x (result.Met (loads + 1)))
       (if loads + 1 == most then ends script x (result.Unmet most) else goes_on x (Stray (loads + 1) most))
       (over (result.Met (loads + 1)) (statement.Wait t word value limit, e, tt))
-      (pick (Traces script es x) (loads + 1 == most) (ends script x (result.Unmet most)) (goes_on x (Stray (loads + 1) most)) (over (result.Unmet most) (statement.Wait t word value limit, e, tt))
+      (either_way (Traces script es x) (loads + 1 == most) (ends script x (result.Unmet most)) (goes_on x (Stray (loads + 1) most)) (over (result.Unmet most) (statement.Wait t word value limit, e, tt))
       (on (Stray (loads + 1) most) tt))
-  stray_traces loads most None e h n seen l = absurd (cc)
+  stray_traces loads most _ e h n seen l = absurd (cc)
 
   -- each row
   pub row_traces : (stage : ThreadStage) → x.stage ≡ stage → IsSoundThreadStage (length x.clean) x.patience x.block stage → is_calling stage ≡ is_call here → is_over stage ≡ is_none here
       → IsTracedThread script es x.target stage → (seen : Observation) → Finds script es x stage (value_in seen) → Traces script es x ((thread_row script x stage).next seen)
-  row_traces (Try c rounds all_abandoned) at s calls none w seen l = call_traces (sym calls) (Try c rounds all_abandoned) s refl w seen l
-  row_traces (Fill c i) at s calls none w seen l = call_traces (sym calls) (Fill c i) s refl w seen l
-  row_traces (Send c) at s calls none w seen l = call_traces (sym calls) (Send c) s refl w seen l
-  row_traces (Wait c loads) at s calls none w seen l = call_traces (sym calls) (Wait c loads) s refl w seen l
-  row_traces (Fetch c words) at s calls none w seen l = call_traces (sym calls) (Fetch c words) s refl w seen l
-  row_traces (Free c words) at s calls none w seen l = call_traces (sym calls) (Free c words) s refl w seen l
-  row_traces (Abandon c) at s calls none w seen l = call_traces (sym calls) (Abandon c) s refl w seen l
   row_traces (Stray loads most) at s calls none w seen l = stray_traces loads most here refl (sym calls) (sym none) seen l
   row_traces Over at s calls none w seen l = record { stage = subst (λ z. IsTracedThread script es x.target z) (sym at) tt; shown = tt }
+  row_traces stage at s calls none w seen l = call_traces (sym calls) stage s refl w seen l
 
   -- what the step writes
   of_block : (o : Option Statement) → here ≡ o → is_call o ≡ true → (i : ℕ) → i < length (block_of (mark_at x.thread x.place) o) → (c : ℕ)
       → HasBlockSource script es x.target c i (slice_index (block_of (mark_at x.thread x.place) o) i)
   of_block (Some (statement.Call tag args)) e h i l c = inr (inl (x.thread, x.place, tag, args, e, l, refl))
-  of_block (Some (statement.Store t word value)) e h i l c = absurd (cc)
-  of_block (Some (statement.Exchange t word from to)) e h i l c = absurd (cc)
-  of_block (Some (statement.Load t word)) e h i l c = absurd (cc)
-  of_block (Some (statement.Wait t word value most)) e h i l c = absurd (cc)
-  of_block None e h i l c = absurd (cc)
+  of_block _ e h i l c = absurd (cc)
 
   low_word : (t : ℕ) (word : Word) → has_word script.targets t word ≡ true → word.at < 65
   low_word t word h =
@@ -237,14 +195,11 @@ module _ (script : Script) (es : List Entry) (x : ThreadAt) where
   }
 
   stray_writes : (y : ThreadAt) (loads most : ℕ) (o : Option Statement) → here ≡ o → IfSome o (λ s. is_statement script.targets s ≡ true) → WritesSource script es (stray_row script y loads most o).step
-  stray_writes y loads most (Some (statement.Call tag args)) e h = tt
   stray_writes y loads most (Some (statement.Store t word value)) e h =
       (low_word t word h, by_hand_source t word value (statement.Store t word value) e (λ c j f g. (refl, f, g, refl)))
   stray_writes y loads most (Some (statement.Exchange t word from to)) e h =
       (low_word t word h, by_hand_source t word to (statement.Exchange t word from to) e (λ c j f g. (refl, f, g, refl)))
-  stray_writes y loads most (Some (statement.Load t word)) e h = tt
-  stray_writes y loads most (Some (statement.Wait t word value limit)) e h = tt
-  stray_writes y loads most None e h = tt
+  stray_writes y loads most _ e h = tt
 
   pub row_writes : (stage : ThreadStage) → IsSoundThreadStage (length x.clean) x.patience x.block stage → is_calling stage ≡ is_call here → length x.block ≤ 64
       → x.block ≡ block_of (mark_at x.thread x.place) here → IfSome here (λ s. is_statement script.targets s ≡ true) → WritesSource script es (thread_plan script (record x { stage = stage }))
@@ -257,9 +212,7 @@ module _ (script : Script) (es : List Entry) (x : ThreadAt) where
             (subst (λ (z : List ℕ). HasBlockSource script es x.target c i (slice_index z i)) (sym b) (of_block here refl (sym calls) i inside c)),
       )
   row_writes (Send c) s calls short b good = (lit< tt, state_source script es x.target c 3 (inl (lit≤ tt, lit≤ tt)))
-  row_writes (Wait c loads) s calls short b good = tt
-  row_writes (Fetch c words) s calls short b good = tt
   row_writes (Free c words) s calls short b good = (lit< tt, state_source script es x.target c 1 (inl (lit≤ tt, lit≤ tt)))
   row_writes (Abandon c) s calls short b good = (lit< tt, state_source script es x.target c 5 (inl (lit≤ tt, lit≤ tt)))
   row_writes (Stray loads most) s calls short b good = stray_writes (record x { stage = Stray loads most }) loads most here refl good
-  row_writes Over s calls short b good = tt
+  row_writes _ s calls short b good = tt

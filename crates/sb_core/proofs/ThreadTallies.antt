@@ -18,16 +18,13 @@ use Rattle.sb_statements.specs.declared.statements.Statement.{Statement}
 use Rattle.sb_statements.specs.declared.statements.Statement.TheVariants as statement
 use Rattle.sb_core.specs.Kept.{is_calling}
 use Rattle.sb_core.specs.Tallies.{has_sent, ends_on, is_state, one_if, tally_from, tally_of}
+use Rattle.sb_core.proofs.ThreadRows.{either_stage, pick}
 
 -- a step that found n made the channel ready
 abbrev pub readies : ℕ → ℕ → Act → ℕ → Bool
 readies t c (act.Store u word value) n = is_state t c u word && value == 3
 readies t c (act.Exchange u word from to) n = is_state t c u word && (n == from && to == 3)
-readies t c (act.Load u word) n = false
-readies t c act.Take n = false
-readies t c act.Answer n = false
-readies t c act.Give n = false
-readies t c act.Idle n = false
+readies t c _ n = false
 
 -- what a result adds
 abbrev pub tally_in : ℕ → ℕ → ℕ → Option Statement → Option StmtResult → ℕ
@@ -51,14 +48,6 @@ no_rise false b e = refl
 none_sent : (a : Bool) → one_if (a && false) ≡ 0
 none_sent true = refl
 none_sent false = refl
-
-pick : (P : ThreadNext → Type 0) (b : Bool) (x y : ThreadNext) → (b ≡ true → P x) → (b ≡ false → P y) → P (if b then x else y)
-pick P true x y f g = f refl
-pick P false x y f g = g refl
-
-pick_stage : (P : ThreadNext → Type 0) (at : ThreadAt) (b : Bool) (s u : ThreadStage) → P (goes_on at s) → P (goes_on at u) → P (goes_on at (if b then s else u))
-pick_stage P at true s u f g = f
-pick_stage P at false s u f g = g
 
 -- tests of a step on a state word
 send_rise : (a b e : Bool) → one_if ((a && (b && true)) && (e && true)) ≤ one_if (a && b)
@@ -129,45 +118,34 @@ module _ (script : Script) (t c : ℕ) (x : ThreadAt) where
       let zero_rise : one_if ((mine && (d == c && true)) && (found == 2 && true)) ≡ 0 = state_none mine (d == c) (found == 2 && true) (ap (λ b. b && true) e) in
       omega (arith, zero_sent, zero_rise))
   call_counted (Wait d loads) h seen =
-      pick_stage (IsCounted script t c x (Wait d loads) 0) x (value_in seen == acknowledged) (Fetch d [])
+      either_stage (IsCounted script t c x (Wait d loads) 0) x (value_in seen == acknowledged) (Fetch d [])
       (if is_clean_at x d then Wait d loads else (if loads + 1 == x.patience then Abandon d else Wait d (loads + 1))) (stays_sent (Wait d loads) (Fetch d []) 0 refl refl)
-      (pick_stage (IsCounted script t c x (Wait d loads) 0) x (is_clean_at x d) (Wait d loads) (if loads + 1 == x.patience then Abandon d else Wait d (loads + 1))
+      (either_stage (IsCounted script t c x (Wait d loads) 0) x (is_clean_at x d) (Wait d loads) (if loads + 1 == x.patience then Abandon d else Wait d (loads + 1))
       (stays_sent (Wait d loads) (Wait d loads) 0 refl refl)
-      (pick_stage (IsCounted script t c x (Wait d loads) 0) x (loads + 1 == x.patience) (Abandon d) (Wait d (loads + 1)) (stays_sent (Wait d loads) (Abandon d) 0 refl refl)
+      (either_stage (IsCounted script t c x (Wait d loads) 0) x (loads + 1 == x.patience) (Abandon d) (Wait d (loads + 1)) (stays_sent (Wait d loads) (Abandon d) 0 refl refl)
       (stays_sent (Wait d loads) (Wait d (loads + 1)) 0 refl refl)))
   call_counted (Fetch d words) h seen =
-      pick_stage (IsCounted script t c x (Fetch d words) 0) x (length (words ++ value_in seen ∷ []) == 12) (Free d (words ++ value_in seen ∷ [])) (Fetch d (words ++ value_in seen ∷ []))
+      either_stage (IsCounted script t c x (Fetch d words) 0) x (length (words ++ value_in seen ∷ []) == 12) (Free d (words ++ value_in seen ∷ [])) (Fetch d (words ++ value_in seen ∷ []))
       (stays_sent (Fetch d words) (Free d (words ++ value_in seen ∷ [])) 0 refl refl) (stays_sent (Fetch d words) (Fetch d (words ++ value_in seen ∷ [])) 0 refl refl)
   call_counted (Free d words) h seen =
       ends_sent (Free d words) _ (result.Call (if (read_reply words).mark == mark_at x.thread x.place then call.Reply d (read_reply words) else call.Foreign d (read_reply words).mark))
       (reply_ends d ((read_reply words).mark == mark_at x.thread x.place) words) (state_none mine (d == c) false refl)
   call_counted (Abandon d) h seen = ends_sent (Abandon d) _ (result.Call (call.TimedOut d)) refl (state_none mine (d == c) false refl)
-  call_counted (Stray loads most) h seen = absurd (cc)
-  call_counted Over h seen = absurd (cc)
+  call_counted _ h seen = absurd (cc)
 
   -- a statement that names a word
   stray_counted : (y : ThreadAt) (loads most : ℕ) (o : Option Statement) → here ≡ o → (seen : Observation) → has_sent c y.stage ≡ false
       → one_if (x.target == t && has_sent c (Stray loads most)) + one_if (readies t c (stray_row script y loads most o).step (value_in seen))
       ≤ one_if (x.target == t && has_sent c ((stray_row script x loads most o).next seen).thread.stage) + tally_in t c x.target o ((stray_row script x loads most o).next seen).ended
   stray_counted y loads most (Some (statement.Call tag args)) e seen f = let zero_sent = none_sent mine in omega (arith, zero_sent)
-  stray_counted y loads most (Some (statement.Store u word value)) e seen f = let zero_sent = none_sent mine in omega (arith, zero_sent)
-  stray_counted y loads most (Some (statement.Exchange u word from to)) e seen f = let zero_sent = none_sent mine in omega (arith, zero_sent)
-  stray_counted y loads most (Some (statement.Load u word)) e seen f = let zero_sent = none_sent mine in omega (arith, zero_sent)
-  stray_counted y loads most (Some (statement.Wait u word value limit)) e seen f = let zero_sent = none_sent mine in omega (arith, zero_sent)
-  stray_counted y loads most None e seen f = let zero_sent = none_sent mine in omega (arith, zero_sent)
+  stray_counted y loads most _ e seen f = let zero_sent = none_sent mine in omega (arith, zero_sent)
 
   -- each row
   pub row_counted : (stage : ThreadStage) → (seen : Observation)
       → IsCounted script t c x stage (one_if (readies t c (thread_plan script (record x { stage = stage })) (value_in seen))) ((thread_row script x stage).next seen)
-  row_counted (Try d rounds all_abandoned) seen = call_counted (Try d rounds all_abandoned) refl seen
-  row_counted (Fill d i) seen = call_counted (Fill d i) refl seen
-  row_counted (Send d) seen = call_counted (Send d) refl seen
-  row_counted (Wait d loads) seen = call_counted (Wait d loads) refl seen
-  row_counted (Fetch d words) seen = call_counted (Fetch d words) refl seen
-  row_counted (Free d words) seen = call_counted (Free d words) refl seen
-  row_counted (Abandon d) seen = call_counted (Abandon d) refl seen
   row_counted (Stray loads most) seen = stray_counted (record x { stage = Stray loads most }) loads most here refl seen refl
   row_counted Over seen = let zero_sent = none_sent mine in omega (arith, zero_sent)
+  row_counted stage seen = call_counted stage refl seen
 
 -- the tally of results with one more
 pub tally_more : (script : Script) (t c u k i j : ℕ) (results : List StmtResult) (o : Option StmtResult) → j ≡ i + length results

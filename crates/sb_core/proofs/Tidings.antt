@@ -1,7 +1,6 @@
 -- What the step of a thread tells of its call: a result that suits its statement, and a Reply on a clean channel exactly if the view has one more call.
 use Rattle.std.proofs.Common.{◌≡◌, ◌≢◌, ◌∙◌, refl, ap, subst, sym, ℕ, zero, suc, ◌+◌, ◌<◌, ◌≤◌, Bool, true, false, ◌&&◌, ◌==◌, if◌then◌else◌, List, [], ◌∷◌, ◌++◌, length, map, Option, None, Some, IfSome, arith}
 use Rattle.std.proofs.lemmas.Bool.{and_parts}
-use Rattle.std.proofs.lemmas.Bool.Decides.{nat_tests}
 use Rattle.std.specs.Prelude.{is_none, slice_index}
 use Rattle.sb_actor.specs.Acts.{value_in, free, busy, acknowledged, abandoned}
 use Rattle.sb_actor.specs.Fitting.{IsUncleanAt, Suits, SuitsCall}
@@ -26,48 +25,27 @@ use Rattle.sb_statements.specs.declared.statements.Word.{Word}
 use Rattle.sb_core.specs.Kept.{is_calling, is_over}
 use Rattle.sb_core.specs.Views.{OwnCall, as_own, own_call, own_if, own_of}
 use Rattle.sb_core.proofs.Settling.{none_at}
-
-not_same : (x y : ℕ) → (x == y) ≡ false → x ≢ y
-not_same x y e = grind (arith, nat_tests)
-
-is_same : (x y : ℕ) → (x == y) ≡ true → x ≡ y
-is_same x y e = grind (arith, nat_tests)
+use Rattle.sb_core.proofs.ThreadRows.{pick, pick_stage}
+use Rattle.sb_core.proofs.Numbers.{is_same, not_same}
 
 -- what the step of a thread knows of its statement and, if it found n, of its channel
 abbrev pub Learns : Script → ThreadAt → ThreadStage → ℕ → Type 0
 Learns script x (Try c rounds all_abandoned) n = (is_clean x.clean c ≡ true → n ≢ 5) × (all_abandoned ≡ true → (d : ℕ) → d < c → is_clean x.clean d ≡ false)
-Learns script x (Fill c i) n = Unit {0}
 Learns script x (Send c) n = is_clean x.clean c ≡ true → n ≡ 2
-Learns script x (Wait c loads) n = Unit {0}
-Learns script x (Fetch c words) n = Unit {0}
 Learns script x (Free c words) n = is_clean x.clean c ≡ true → slice_index words 0 ≡ mark_in x.block
 Learns script x (Abandon c) n = is_clean x.clean c ≡ false
 Learns script x (Stray loads most) n = (t : ℕ) (w : Word) (value limit : ℕ) → statement_at script x.target x.thread x.place ≡ Some (statement.Wait t w value limit) → most ≡ limit
-Learns script x Over n = Unit {0}
+Learns script x _ n = Unit {0}
 
 -- a wait makes as many loads as its statement says
 abbrev pub Waits : Script → ThreadAt → ThreadStage → Type 0
-Waits script x (Try c rounds all_abandoned) = Unit {0}
-Waits script x (Fill c i) = Unit {0}
-Waits script x (Send c) = Unit {0}
-Waits script x (Wait c loads) = Unit {0}
-Waits script x (Fetch c words) = Unit {0}
-Waits script x (Free c words) = Unit {0}
-Waits script x (Abandon c) = Unit {0}
 Waits script x (Stray loads most) = (t : ℕ) (w : Word) (value limit : ℕ) → statement_at script x.target x.thread x.place ≡ Some (statement.Wait t w value limit) → most ≡ limit
-Waits script x Over = Unit {0}
+Waits script x _ = Unit {0}
 
 -- the call that a stage ends with a reply on a clean channel
 abbrev pub own_by : ThreadAt → ThreadStage → List OwnCall
-own_by x (Try c rounds all_abandoned) = []
-own_by x (Fill c i) = []
-own_by x (Send c) = []
-own_by x (Wait c loads) = []
-own_by x (Fetch c words) = []
 own_by x (Free c words) = own_if (is_clean x.clean c) (record { channel = c; block = x.block; reply = read_reply words })
-own_by x (Abandon c) = []
-own_by x (Stray loads most) = []
-own_by x Over = []
+own_by x _ = []
 
 -- those of a result, if there is one
 abbrev pub own_in : ThreadAt → Option StmtResult → List OwnCall
@@ -85,10 +63,6 @@ pub record Tidings (script : Script) (x : ThreadAt) (stage : ThreadStage) (n : T
 -- the view has that call too
 pub ended_own : (x : ThreadAt) (stage : ThreadStage) (d : Deed) → thread_deed x.block stage ≡ Some d
     → map as_own (ended x.clean (thread_place_of x.block stage) d) ≡ own_by x stage
-ended_own x (Try c rounds all_abandoned) d e = refl
-ended_own x (Fill c i) d e = refl
-ended_own x (Send c) d e = refl
-ended_own x (Wait c loads) d e = refl
 ended_own x (Fetch c words) d e =
     let same : fetch ≡ d = cc in
     subst (λ z. map as_own (ended x.clean (thread_place_of x.block (Fetch c words)) z) ≡ []) same refl
@@ -99,9 +73,9 @@ ended_own x (Free c words) d e =
     by_test : (b : Bool) → map as_own (if b then record { channel = c; block = x.block; reply = words } ∷ [] else []) ≡ own_if b (record { channel = c; block = x.block; reply = read_reply words })
     by_test true = refl
     by_test false = refl
-ended_own x (Abandon c) d e = refl
 ended_own x (Stray loads most) d e = absurd (cc)
 ended_own x Over d e = absurd (cc)
+ended_own x _ d e = refl
 
 -- a channel that is there and not clean
 unclean_at : (clean : List Bool) (c : ℕ) → c < length clean → is_clean clean c ≡ false → IsUncleanAt clean c
@@ -117,35 +91,17 @@ unless : (b : Bool) → (b ≡ true → ⊥) → b ≡ false
 unless true f = absurd (f refl)
 unless false f = refl
 
--- a choice
-pick : (P : ThreadNext → Type 0) (b : Bool) (x y : ThreadNext) → (b ≡ true → P x) → (b ≡ false → P y) → P (if b then x else y)
-pick P true x y f g = f refl
-pick P false x y f g = g refl
-
-pick_stage : (P : ThreadNext → Type 0) (at : ThreadAt) (b : Bool) (s u : ThreadStage) → (b ≡ true → P (goes_on at s)) → (b ≡ false → P (goes_on at u))
-    → P (goes_on at (if b then s else u))
-pick_stage P at true s u f g = f refl
-pick_stage P at false s u f g = g refl
-
 waits_calling : (script : Script) (x : ThreadAt) (s : ThreadStage) → is_calling s ≡ true → Waits script x s
-waits_calling script x (Try c rounds all_abandoned) e = tt
-waits_calling script x (Fill c i) e = tt
-waits_calling script x (Send c) e = tt
-waits_calling script x (Wait c loads) e = tt
-waits_calling script x (Fetch c words) e = tt
-waits_calling script x (Free c words) e = tt
-waits_calling script x (Abandon c) e = tt
 waits_calling script x (Stray loads most) e = absurd (cc)
 waits_calling script x Over e = absurd (cc)
+waits_calling script x _ e = tt
 
 -- a statement begins so
 pub waits_first : (script : Script) (x : ThreadAt) (o : Option Statement) → statement_at script x.target x.thread x.place ≡ o → Waits script x (first_stage o)
 waits_first script x (Some (statement.Call tag args)) e = tt
-waits_first script x (Some (statement.Store t w value)) e = λ u v a b f. absurd (cc)
-waits_first script x (Some (statement.Exchange t w from to)) e = λ u v a b f. absurd (cc)
-waits_first script x (Some (statement.Load t w)) e = λ u v a b f. absurd (cc)
 waits_first script x (Some (statement.Wait t w value most)) e = λ u v a b f. cc
 waits_first script x None e = tt
+waits_first script x _ e = λ u v a b f. absurd (cc)
 
 module _ (script : Script) (x : ThreadAt) where
   abbrev here : Option Statement
@@ -161,11 +117,7 @@ module _ (script : Script) (x : ThreadAt) where
   -- any result that suits the call
   call_suits : (o : Option Statement) → here ≡ o → is_call o ≡ true → (r : CallResult) → SuitsCall x.clean mark r → SuitsStatement script x (result.Call r)
   call_suits (Some (statement.Call tag args)) e h r s = (statement.Call tag args, e, s)
-  call_suits (Some (statement.Store t word value)) e h r s = absurd (cc)
-  call_suits (Some (statement.Exchange t word from to)) e h r s = absurd (cc)
-  call_suits (Some (statement.Load t word)) e h r s = absurd (cc)
-  call_suits (Some (statement.Wait t word value most)) e h r s = absurd (cc)
-  call_suits None e h r s = absurd (cc)
+  call_suits _ e h r s = absurd (cc)
 
   -- a call
   module _ (calls : is_call here ≡ true) (marked : mark_in x.block ≡ mark) where
@@ -245,8 +197,7 @@ module _ (script : Script) (x : ThreadAt) where
         (λ e. on_goes (Fetch c words) (Fetch c (words ++ value_in seen ∷ [])) refl refl)
     call_tells (Free c words) s h seen l = on_reply c words s.0 l (slice_index words 0 == mark) refl
     call_tells (Abandon c) s h seen l = on_ends (Abandon c) (call.TimedOut c) (unclean_at x.clean c s l) refl
-    call_tells (Stray loads most) s h seen l = absurd (cc)
-    call_tells Over s h seen l = absurd (cc)
+    call_tells _ s h seen l = absurd (cc)
 
   -- a statement that names a word
   stray_ends : (loads most : ℕ) (r : StmtResult) → SuitsStatement script x r → own_of x.clean x.block r ≡ [] → Tidings script x (Stray loads most) (ends script x r)
@@ -255,7 +206,6 @@ module _ (script : Script) (x : ThreadAt) where
   pub stray_tells : (loads most : ℕ) (o : Option Statement) → here ≡ o → is_call o ≡ false → is_none o ≡ false → loads < most
       → ((t : ℕ) (w : Word) (value limit : ℕ) → here ≡ Some (statement.Wait t w value limit) → most ≡ limit) → (seen : Observation)
       → Tidings script x (Stray loads most) ((stray_row script x loads most o).next seen)
-  stray_tells loads most (Some (statement.Call tag args)) e h n low l seen = absurd (cc)
   stray_tells loads most (Some (statement.Store t word value)) e h n low l seen = stray_ends loads most result.Stored (statement.Store t word value, e, tt) refl
   stray_tells loads most (Some (statement.Exchange t word from to)) e h n low l seen =
       stray_ends loads most (result.Found (value_in seen)) (statement.Exchange t word from to, e, tt) refl
@@ -268,20 +218,14 @@ module _ (script : Script) (x : ThreadAt) where
       (λ f. pick (Tidings script x (Stray loads most)) (loads + 1 == most) (ends script x (result.Unmet most)) (goes_on x (Stray (loads + 1) most))
       (λ g. stray_ends loads most (result.Unmet most) (statement.Wait t word value limit, e, same) refl)
       (λ g. record { suits = tt; own = refl; waits = l }))
-  stray_tells loads most None e h n low l seen = absurd (cc)
+  stray_tells loads most _ e h n low l seen = absurd (cc)
 
 -- each row
 pub row_tells : (script : Script) (x : ThreadAt) (stage : ThreadStage) → x.stage ≡ stage → (is_call (statement_at script x.target x.thread x.place) ≡ true → mark_in x.block ≡ mark_at x.thread x.place)
     → IsSoundThreadStage (length x.clean) x.patience x.block stage
     → is_calling stage ≡ is_call (statement_at script x.target x.thread x.place) → is_over stage ≡ is_none (statement_at script x.target x.thread x.place)
     → (seen : Observation) → Learns script x stage (value_in seen) → Tidings script x stage ((thread_row script x stage).next seen)
-row_tells script x (Try c rounds all_abandoned) at marked s calls none seen l = call_tells script x (sym calls) (marked (sym calls)) (Try c rounds all_abandoned) s refl seen l
-row_tells script x (Fill c i) at marked s calls none seen l = call_tells script x (sym calls) (marked (sym calls)) (Fill c i) s refl seen l
-row_tells script x (Send c) at marked s calls none seen l = call_tells script x (sym calls) (marked (sym calls)) (Send c) s refl seen l
-row_tells script x (Wait c loads) at marked s calls none seen l = call_tells script x (sym calls) (marked (sym calls)) (Wait c loads) s refl seen l
-row_tells script x (Fetch c words) at marked s calls none seen l = call_tells script x (sym calls) (marked (sym calls)) (Fetch c words) s refl seen l
-row_tells script x (Free c words) at marked s calls none seen l = call_tells script x (sym calls) (marked (sym calls)) (Free c words) s refl seen l
-row_tells script x (Abandon c) at marked s calls none seen l = call_tells script x (sym calls) (marked (sym calls)) (Abandon c) s refl seen l
 row_tells script x (Stray loads most) at marked s calls none seen l =
     stray_tells script x loads most (statement_at script x.target x.thread x.place) refl (sym calls) (sym none) s l seen
 row_tells script x Over at marked s calls none seen l = record { suits = tt; own = refl; waits = subst (Waits script x) (sym at) tt }
+row_tells script x stage at marked s calls none seen l = call_tells script x (sym calls) (marked (sym calls)) stage s refl seen l

@@ -13,7 +13,7 @@ use Rattle.sb_actor.specs.Laws.{opening_at}
 use Rattle.sb_actor.specs.ThreadStages.{ThreadStage, ThreadAt}
 use Rattle.sb_actor.specs.ThreadStages as thread
 use Rattle.sb_actor.specs.ThreadTable.{stray_row, thread_after, thread_plan}
-use Rattle.sb_actor.specs.WorkerStages.{WorkerStage, WorkerAt, Look, Count, End, Copy, Take, Answer, Give, Reply, Ack}
+use Rattle.sb_actor.specs.WorkerStages.{WorkerStage, WorkerAt, End, Copy, Take, Answer, Give, Reply}
 use Rattle.sb_actor.specs.WorkerTable.{worker_after, worker_plan}
 use Rattle.sb_book.specs.Histories.{entry_of, target_decision}
 use Rattle.sb_book.specs.Readiness.{IsReady}
@@ -32,7 +32,7 @@ use Rattle.sb_statements.specs.declared.statements.Statement.{Statement}
 use Rattle.sb_statements.specs.declared.statements.Statement.TheVariants as statement
 use Rattle.sb_statements.specs.declared.statements.Word.{Word}
 use Rattle.sb_core.specs.Drains.{drained}
-use Rattle.sb_core.specs.Kept.{IsRunning, IsWorkerOf, IsWorld}
+use Rattle.sb_core.specs.Kept.{IsRunning, IsWorld}
 use Rattle.sb_core.specs.Origins.{WorldsAreSourced, AreSourcedCopies, AreSourcedWords, HasSource, IsSourced, NoBlockIsInvented, Shows, ShowsCall}
 use Rattle.sb_core.specs.Reports.{report_of, results_of}
 use Rattle.sb_core.specs.Results.{result_at}
@@ -40,7 +40,7 @@ use Rattle.sb_core.specs.Runs.{ended, played}
 use Rattle.sb_core.specs.Shared.{Effect, IsActThere, on_word, on_worker}
 use Rattle.sb_core.specs.Threads.{RunAt, first_unfinished, no_run}
 use Rattle.sb_core.specs.Words.{free_channels}
-use Rattle.sb_core.specs.Worlds.{WorldAt, first_worker, first_workers, no_worker, rounds, run_at, start_world, step, threads_at, worker_at, worker_step}
+use Rattle.sb_core.specs.Worlds.{WorldAt, first_worker, first_workers, no_worker, run_at, start_world, step, threads_at, worker_at, worker_step}
 use Rattle.sb_core.proofs.Bounds.{ready_sound}
 use Rattle.sb_core.proofs.Draining.{drained_threads}
 use Rattle.sb_core.proofs.Keeping.{worker_keeps}
@@ -54,10 +54,11 @@ use Rattle.sb_core.proofs.Sets.{each_set}
 use Rattle.sb_core.proofs.Sourcing.{in_front, more_block, more_copy, more_reply, more_source, sourced_words}
 use Rattle.sb_core.proofs.Stepping.{kept_along}
 use Rattle.sb_core.proofs.Starting.{each_is, free_length, start_run, starts_running, starts_world, words_at}
-use Rattle.sb_core.proofs.There.{as_many, listed, sound_at, thread_there}
+use Rattle.sb_core.proofs.There.{as_many, its_own, listed, sound_at, thread_there}
 use Rattle.sb_core.proofs.ThreadKeeping.{thread_book}
 use Rattle.sb_core.proofs.ThreadSources.{Finds, FindsAt, IsTracedThread, ShowsStatement, Traces, row_traces, row_writes, traced_first}
 use Rattle.sb_core.proofs.WorkerSources.{IsTracedWorker, own_copies, own_traced, own_words}
+use Rattle.sb_core.proofs.Numbers.{none_of, none_some, some_same}
 
 -- the entries stay, or one comes
 abbrev pub Grown : List Entry → List Entry → Type 0
@@ -70,33 +71,24 @@ grow P es after more (inr g) h = subst P (sym g.1) (more g.0 h)
 -- what was traced stays so
 module _ (script : Script) (es : List Entry) (e : Entry) (t : ℕ) where
   pub more_worker : (c : ℕ) (stage : WorkerStage) → IsTracedWorker script es t c stage → IsTracedWorker script (es ++ e ∷ []) t c stage
-  more_worker c Look h = tt
-  more_worker c Count h = tt
   more_worker c (End count) h = more_block script es e t c 2 count h
   more_worker c (Copy count end words) h = more_copy script es e t c _ h
   more_worker c (Take taken) h = more_copy script es e t c taken h
   more_worker c (Answer taken) h = more_copy script es e t c taken h
   more_worker c (Give taken reply) h = (h.0, h.1, in_front es e h.0 h.1 h.2, h.3, h.4, h.5)
   more_worker c (Reply taken reply i) h = (h.0, h.1, in_front es e h.0 h.1 h.2, h.3, h.4, h.5)
-  more_worker c (Ack taken reply) h = tt
+  more_worker c _ h = tt
 
   more_thread : (stage : ThreadStage) → IsTracedThread script es t stage → IsTracedThread script (es ++ e ∷ []) t stage
-  more_thread (thread.Try c rounds all_abandoned) h = tt
-  more_thread (thread.Fill c i) h = tt
-  more_thread (thread.Send c) h = tt
-  more_thread (thread.Wait c loads) h = tt
   more_thread (thread.Fetch c words) h = λ i l. more_block script es e t c (3 + i) (slice_index words i) (h i l)
   more_thread (thread.Free c words) h = λ i l. more_block script es e t c (3 + i) (slice_index words i) (h i l)
-  more_thread (thread.Abandon c) h = tt
-  more_thread (thread.Stray loads most) h = tt
-  more_thread thread.Over h = tt
+  more_thread _ h = tt
 
   more_call : (r : CallResult) → ShowsCall script es t r → ShowsCall script (es ++ e ∷ []) t r
   more_call (call.Reply c reply) h = more_reply script es e t c reply h
-  more_call call.NoChannel h = tt
   more_call (call.SendLost c found) h = h
   more_call (call.Foreign c mark) h = more_block script es e t c 3 mark h
-  more_call (call.TimedOut c) h = tt
+  more_call _ h = tt
 
   pub more_shows : (s : Statement) (r : StmtResult) → Shows script es t s r → Shows script (es ++ e ∷ []) t s r
   more_shows (statement.Call tag args) (result.Call r) h = more_call r h
@@ -127,34 +119,21 @@ pub record Own (script : Script) (w : WorldAt) (t : ℕ) (x : WorkerAt) (e : Eff
 module _ (script : Script) (w : WorldAt) (t channels c : ℕ) where
   pub grown_at : (stage : WorkerStage)
       → Grown w.shared.book.entries (on_worker w.shared t (record { target = t; channels = channels; channel = c; stage = stage }) (worker_plan (record { target = t; channels = channels; channel = c; stage = stage }))).shared.book.entries
-  grown_at Look = inl refl
-  grown_at Count = inl refl
-  grown_at (End count) = inl refl
-  grown_at (Copy count end words) = inl refl
-  grown_at (Take taken) = inl refl
   grown_at (Answer taken) = inr (entry_of w.shared.book.space t c taken (target_decision w.shared.book t taken), refl)
-  grown_at (Give taken reply) = inl refl
-  grown_at (Reply taken reply i) = inl refl
-  grown_at (Ack taken reply) = inl refl
+  grown_at _ = inl refl
 
 own_step : (script : Script) (w : WorldAt) (t : ℕ) → Traced script w → t < length w.workers → Own script w t (worker_at w t) (on_worker w.shared t (worker_at w t) (worker_plan (worker_at w t)))
 own_step script w t r there =
     let k = r.kept.workers t there in
-    by_target (worker_at w t).target (worker_at w t).channels (worker_at w t).channel (worker_at w t).stage k.its_target k (r.workers t there)
-  where
-    by_target : (target channels channel : ℕ) (stage : WorkerStage) → target ≡ t
-        → IsWorkerOf w t (record { target = target; channels = channels; channel = channel; stage = stage }) → IsTracedWorker script w.shared.book.entries t channel stage
-        → Own script w t (record { target = target; channels = channels; channel = channel; stage = stage })
-        (on_worker w.shared t (record { target = target; channels = channels; channel = channel; stage = stage }) (worker_plan (record { target = target; channels = channels; channel = channel; stage = stage })))
-    by_target target channels channel stage e k h =
-        subst (λ z. Own script w t (record { target = z; channels = channels; channel = channel; stage = stage })
-        (on_worker w.shared t (record { target = z; channels = channels; channel = channel; stage = stage }) (worker_plan (record { target = z; channels = channels; channel = channel; stage = stage })))) (sym e)
-        (record {
-          words = own_words script w t channels channel r.kept there k.within k.few k.sized r.words r.copies stage k.sound h;
-          copies = own_copies script w t channels channel r.kept there k.within k.few k.sized r.words r.copies stage h;
-          own = own_traced script w t channels channel r.kept there k.within k.few k.sized r.words r.copies stage k.sound h;
-          grown = grown_at script w t channels channel stage;
-        })
+    let x = worker_at w t in
+    let h = r.workers t there in
+    subst (λ (z : WorkerAt). Own script w t z (on_worker w.shared t z (worker_plan z))) (sym (its_own w t r.kept there))
+    (record {
+      words = own_words script w t x.channels x.channel r.kept there k.within k.few k.sized r.words r.copies x.stage k.sound h;
+      copies = own_copies script w t x.channels x.channel r.kept there k.within k.few k.sized r.words r.copies x.stage h;
+      own = own_traced script w t x.channels x.channel r.kept there k.within k.few k.sized r.words r.copies x.stage k.sound h;
+      grown = grown_at script w t x.channels x.channel x.stage;
+    })
 
 traced_worker : (script : Script) (w : WorldAt) (t : ℕ) → Traced script w → t < length w.workers → Traced script (worker_step w t)
 traced_worker script w t r there =
@@ -195,24 +174,16 @@ module _ (script : Script) (w : WorldAt) (all : AreSourcedWords script w.shared.
 
   finds_at : (loads most : ℕ) (o : Option Statement) → IfSome o (λ s. is_statement script.targets s ≡ true) → (y : ThreadAt) → IsActThere w.shared.words (stray_row script y loads most o).step
       → FindsAt script es o (value_in (on_word w.shared (stray_row script y loads most o).step).seen)
-  finds_at loads most (Some (statement.Call tag args)) good y h = tt
-  finds_at loads most (Some (statement.Store u word value)) good y h = tt
   finds_at loads most (Some (statement.Exchange u word from to)) good y h = all u word.channel word.at (low_word script u word good) h.inside
   finds_at loads most (Some (statement.Load u word)) good y h = all u word.channel word.at (low_word script u word good) h.inside
-  finds_at loads most (Some (statement.Wait u word value limit)) good y h = tt
-  finds_at loads most None good y h = tt
+  finds_at loads most _ good y h = tt
 
   finds : (stage : ThreadStage) → IsSoundThreadStage (length x.clean) x.patience x.block stage → IfSome (statement_at script x.target x.thread x.place) (λ s. is_statement script.targets s ≡ true)
       → IsActThere w.shared.words (thread_plan script (record x { stage = stage })) → Finds script es x stage (value_in (on_word w.shared (thread_plan script (record x { stage = stage }))).seen)
-  finds (thread.Try c rounds all_abandoned) s good h = tt
-  finds (thread.Fill c i) s good h = tt
   finds (thread.Send c) s good h = (all x.target c 0 (lit< tt) h.inside).state refl
-  finds (thread.Wait c loads) s good h = tt
   finds (thread.Fetch c words) s good h = let low = s.1 in (all x.target c (1 + (3 + length words)) (omega (arith, low)) h.inside).word (3 + length words) refl
-  finds (thread.Free c words) s good h = tt
-  finds (thread.Abandon c) s good h = tt
   finds (thread.Stray loads most) s good h = finds_at loads most (statement_at script x.target x.thread x.place) good (record x { stage = thread.Stray loads most }) h
-  finds thread.Over s good h = tt
+  finds _ s good h = tt
 
 module _ (targets : SoundTargets) (statements : SoundStatements) (script : Script) where
   -- the results of a thread after its step
@@ -229,14 +200,8 @@ module _ (targets : SoundTargets) (statements : SoundStatements) (script : Scrip
       last : (ended : Option StmtResult) → IfSome ended (λ r. ShowsStatement script es x.thread r) → (i ≡ length x.results) × (ended ≡ Some r)
           → (s : Statement) × (statement_at script t k i ≡ Some s) × Shows script es t s r
       last None own h = absurd (none_some r h.1)
-        where
-          none_some : (r : StmtResult) → ◌≡◌ {A = Option StmtResult} None (Some r) → ⊥
-          none_some r e = cc
       last (Some q) own h =
-          subst (λ z. (s : Statement) × (statement_at script t k i ≡ Some s) × Shows script es t s z) (same q r h.1) (placed x.thread.place q (h.0 ∙ counted) own)
-        where
-          same : (q r : StmtResult) → ◌≡◌ {A = Option StmtResult} (Some q) (Some r) → q ≡ r
-          same q r e = cc
+          subst (λ z. (s : Statement) × (statement_at script t k i ≡ Some s) × Shows script es t s z) (some_same q r h.1) (placed x.thread.place q (h.0 ∙ counted) own)
 
   traced_thread : (w : WorldAt) (t k : ℕ) → Traced script w → is_there script.targets (Thread t k) ≡ true → Traced script (step script w (Thread t k))
   traced_thread w t k r e =
@@ -303,7 +268,7 @@ module _ (targets : SoundTargets) (statements : SoundStatements) (script : Scrip
         let same = words_at script.targets t in
         subst (λ (z : List ℕ). HasSource script [] t c j (slice_index z (at c j))) (sym same)
         (free_source t n c j l (subst (λ z. at c j < z) (ap (λ (z : List ℕ). length z) same ∙ size) m));
-    copies = λ n e f. absurd (no_entry n e f);
+    copies = λ n e f. absurd (none_of n e f);
     workers = λ t l.
         subst (λ (x : WorkerAt). IsTracedWorker script [] t x.channel x.stage)
         (sym (each_is (first_worker script.targets) (first_workers script.targets) refl (λ n. refl) (length script.targets) t no_worker
@@ -317,12 +282,6 @@ module _ (targets : SoundTargets) (statements : SoundStatements) (script : Scrip
 
       runs : IsRunning script (start_world policies script)
       runs = starts_running targets statements policies script h
-
-      none_of : (i : ℕ) (r : StmtResult) → ◌≡◌ {A = Option StmtResult} (slice_get [] i) (Some r) → ⊥
-      none_of i r e = cc
-
-      no_entry : (n : ℕ) (e : Entry) → ◌≡◌ {A = Option Entry} (slice_get [] n) (Some e) → ⊥
-      no_entry n e f = cc
 
   traced_step : (w : WorldAt) (actor : Actor) → Traced script w → is_there script.targets actor ≡ true → Traced script (step script w actor)
   traced_step w (Worker t) r e = traced_worker script w t r (worker_is_there script w t r.kept r.runs e)
@@ -338,9 +297,6 @@ module _ (targets : SoundTargets) (statements : SoundStatements) (script : Scrip
     where
       found : slice_get (run_at w t k).results i ≡ Some r
       found = ap (λ (z : List (List RunAt)). slice_get (get_or (get_or z t []) k no_run).results i) same ∙ (sym (results_at threads t k i) ∙ e)
-
-      none_of : (i : ℕ) (r : StmtResult) → ◌≡◌ {A = Option StmtResult} (slice_get [] i) (Some r) → ⊥
-      none_of i r e = cc
 
       by_test : (b : Bool) → ltb k (length (threads_at w t)) ≡ b → (s : Statement) × (statement_at script t k i ≡ Some s) × Shows script w.shared.book.entries t s r
       by_test true f = let low : k < length (threads_at w t) = grind (arith, nat_tests) in traced.shown t k low i r found

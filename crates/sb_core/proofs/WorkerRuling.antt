@@ -1,6 +1,5 @@
 -- A step of a worker keeps the rule of each target.
-use Rattle.std.proofs.Common.{◌≡◌, ◌≢◌, ◌∙◌, refl, ap, subst, sym, ℕ, ◌+◌, ◌*◌, ◌<◌, ◌≤◌, Bool, true, false, cond, ◌==◌, if◌then◌else◌, List, [], ◌∷◌, ◌++◌, length, length-set, map, take, get_or-set_same, Some, is_none, arith}
-use Rattle.std.proofs.lemmas.Bool.Decides.{nat_tests}
+use Rattle.std.proofs.Common.{◌≡◌, ◌≢◌, ◌∙◌, refl, ap, subst, sym, ℕ, ◌+◌, ◌*◌, ◌<◌, ◌≤◌, Bool, true, false, cond, ◌==◌, if◌then◌else◌, List, [], ◌∷◌, ◌++◌, length, length-set, map, take, get_or-set_same, Some, is_none}
 use Rattle.std.proofs.lemmas.List.{append-nil, map-append}
 use Rattle.std.proofs.lemmas.List.Elements.{filter-append}
 use Rattle.std.specs.List.{filter}
@@ -19,7 +18,7 @@ use Rattle.sb_block.specs.Packing.{offset_of}
 use Rattle.sb_book.specs.Histories.{entry_of, target_decision}
 use Rattle.sb_book.specs.declared.entries.Entry.{Entry}
 use Rattle.sb_statements.specs.declared.scripts.Script.{Script}
-use Rattle.sb_core.specs.Kept.{IsWorkerOf, IsWorld}
+use Rattle.sb_core.specs.Kept.{IsWorld}
 use Rattle.sb_core.specs.Shared.{Effect, on_word, on_worker}
 use Rattle.sb_book.specs.Targets.{is_of_target}
 use Rattle.sb_core.specs.Views.{AreViews, InRule, TargetViews, as_call, calls_at, in_work}
@@ -28,7 +27,8 @@ use Rattle.sb_core.specs.Worlds.{WorldAt, no_worker, threads_at, worker_at, work
 use Rattle.sb_core.proofs.Naming.{named_words, names, tells}
 use Rattle.sb_core.proofs.ViewSteps.{RuleLaws, worker_moves, worker_stays}
 use Rattle.sb_core.proofs.Settling.{other_stays}
-use Rattle.sb_core.proofs.There.{target_low, words_listed, worker_act}
+use Rattle.sb_core.proofs.There.{its_own, target_low, words_listed, worker_act}
+use Rattle.sb_core.proofs.Numbers.{apart, self_same}
 
 -- the calls of a target after one more entry
 calls_more : (t : ℕ) (es : List Entry) (e : Entry) (b : Bool) → (e.target == t) ≡ b → calls_at t (es ++ e ∷ []) ≡ calls_at t es ++ (if b then as_call e ∷ [] else [])
@@ -52,12 +52,6 @@ quiet calls served p e f = f ∙ (sym (append-nil (served ++ [])) ∙ ap (λ (z 
 busy_on : (calls served s p : List Served) (q : Served) → s ≡ [] → p ≡ q ∷ [] → calls ≡ served ++ q ∷ [] → calls ≡ (served ++ s) ++ p
 busy_on calls served s p q e g f =
     f ∙ (ap (λ (z : List Served). z ++ q ∷ []) (sym (append-nil served)) ∙ ap (λ (z : List Served × List Served). (served ++ z.0) ++ z.1) (λ j. (sym e j, sym g j)))
-
-self_same : (t : ℕ) → (t == t) ≡ true
-self_same t = grind (arith, nat_tests)
-
-apart : (x y : ℕ) → y ≢ x → (x == y) ≡ false
-apart x y n = grind (arith, nat_tests)
 
 module _ (laws : RuleLaws) (script : Script) (w : WorldAt) (t channels c : ℕ) (kept : IsWorld w) (there : t < length w.workers) (within : c < channels) (few : channels ≤ 8)
     (sized : length (words_of w.shared.words t) ≡ channels * 65) where
@@ -178,32 +172,18 @@ module _ (laws : RuleLaws) (script : Script) (w : WorldAt) (t : ℕ) (kept : IsW
   own_rule : InRule script w t → InRule script (worker_step w t) t
   own_rule before =
       let k = kept.workers t there in
-      by_target (worker_at w t).target (worker_at w t).channels (worker_at w t).channel (worker_at w t).stage k.its_target k before
-    where
-      by_target : (target channels channel : ℕ) (stage : WorkerStage) → target ≡ t
-          → IsWorkerOf w t (record { target = target; channels = channels; channel = channel; stage = stage })
-          → ((views : TargetViews) × AreViews script t (words_of w.shared.words t) (calls_at t w.shared.book.entries)
-          (record { target = target; channels = channels; channel = channel; stage = stage }) (threads_at w t) views)
-          → InRule script (worker_goes w t (record { target = target; channels = channels; channel = channel; stage = stage })
-          (on_worker w.shared t (record { target = target; channels = channels; channel = channel; stage = stage })
-          (worker_plan (record { target = target; channels = channels; channel = channel; stage = stage })))) t
-      by_target target channels channel stage e k before =
-          subst (λ z. ((views : TargetViews) × AreViews script t (words_of w.shared.words t) (calls_at t w.shared.book.entries)
-          (record { target = z; channels = channels; channel = channel; stage = stage }) (threads_at w t) views)
-          → InRule script (worker_goes w t (record { target = z; channels = channels; channel = channel; stage = stage })
-          (on_worker w.shared t (record { target = z; channels = channels; channel = channel; stage = stage })
-          (worker_plan (record { target = z; channels = channels; channel = channel; stage = stage })))) t)
-          (sym e)
-          (λ b.
-          let m = own_target laws script w t channels channel kept there k.within k.few k.sized stage k.sound b in (
-            m.0,
-            subst (λ (y : WorkerAt). AreViews script t (words_of (on_worker w.shared t (record { target = t; channels = channels; channel = channel; stage = stage })
-                (worker_plan (record { target = t; channels = channels; channel = channel; stage = stage }))).shared.words t)
-                (calls_at t (on_worker w.shared t (record { target = t; channels = channels; channel = channel; stage = stage })
-                (worker_plan (record { target = t; channels = channels; channel = channel; stage = stage }))).shared.book.entries) y (threads_at w t) m.0)
-                (sym (get_or-set_same w.workers t _ no_worker there)) m.1,
-          ))
-          before
+      let x = worker_at w t in
+      subst (λ (z : WorkerAt). ((views : TargetViews) × AreViews script t (words_of w.shared.words t) (calls_at t w.shared.book.entries) z (threads_at w t) views)
+      → InRule script (worker_goes w t z (on_worker w.shared t z (worker_plan z))) t)
+      (sym (its_own w t kept there))
+      (λ b.
+      let m = own_target laws script w t x.channels x.channel kept there k.within k.few k.sized x.stage k.sound b in (
+        m.0,
+        subst (λ (y : WorkerAt). AreViews script t (words_of (on_worker w.shared t (record x { target = t }) (worker_plan (record x { target = t }))).shared.words t)
+            (calls_at t (on_worker w.shared t (record x { target = t }) (worker_plan (record x { target = t }))).shared.book.entries) y (threads_at w t) m.0)
+            (sym (get_or-set_same w.workers t _ no_worker there)) m.1,
+      ))
+      before
 
   other_rule : (u : ℕ) → u ≢ t → InRule script w u → InRule script (worker_step w t) u
   other_rule u ne before =

@@ -29,15 +29,13 @@ IsMade es t c reply = (n : ℕ) × (e : Entry) × (slice_get es n ≡ Some e) ×
 
 -- what a worker has copied has sources, and what it replies is made
 abbrev pub IsTracedWorker : Script → List Entry → ℕ → ℕ → WorkerStage → Type 0
-IsTracedWorker script es t c Look = Unit {0}
-IsTracedWorker script es t c Count = Unit {0}
 IsTracedWorker script es t c (End count) = HasBlockSource script es t c 2 count
 IsTracedWorker script es t c (Copy count end words) = IsSourcedCopy script es t c (copied count end words)
 IsTracedWorker script es t c (Take taken) = IsSourcedCopy script es t c taken
 IsTracedWorker script es t c (Answer taken) = IsSourcedCopy script es t c taken
 IsTracedWorker script es t c (Give taken reply) = IsMade es t c reply
 IsTracedWorker script es t c (Reply taken reply i) = IsMade es t c reply
-IsTracedWorker script es t c (Ack taken reply) = Unit {0}
+IsTracedWorker script es t c _ = Unit {0}
 
 -- each of a list with one more
 pub each_more : (P : ℕ → ℕ → Type 0) (words : List ℕ) (x : ℕ) → ((i : ℕ) → i < length words → P i (slice_index words i)) → P (length words) x
@@ -117,13 +115,7 @@ module _ (script : Script) (w : WorldAt) (t channels c : ℕ) (kept : IsWorld w)
 
   -- the words after it
   pub own_words : (stage : WorkerStage) → IsSoundStage stage → Traced stage → AreSourcedWords script (effect stage).shared.book.entries (effect stage).shared.words
-  own_words Look s h = all
-  own_words Count s h = all
-  own_words (End count) s h = all
-  own_words (Copy count end words) s h = all
-  own_words (Take taken) s h = all
   own_words (Answer taken) s h = more_words script es (entry_of w.shared.book.space t c taken (target_decision w.shared.book t taken)) w.shared.words all
-  own_words (Give taken reply) s h = all
   own_words (Reply taken reply i) s h =
       let low = s.0 in
       sourced_words script es w.shared (worker_plan (at_this (Reply taken reply i))) all (worker_act w.shared.words t channels c (target_low w t kept there) few (words_listed w t kept there) within sized (Reply taken reply i) s) (
@@ -134,15 +126,9 @@ module _ (script : Script) (w : WorldAt) (t channels c : ℕ) (kept : IsWorld w)
   own_words (Ack taken reply) s h =
       sourced_words script es w.shared (worker_plan (at_this (Ack taken reply))) all (worker_act w.shared.words t channels c (target_low w t kept there) few (words_listed w t kept there) within sized (Ack taken reply) s)
       (lit< tt, state_source script es t c 4 (inl (lit≤ tt, lit≤ tt)))
+  own_words _ s h = all
 
   -- and the copies of the entries
   pub own_copies : (stage : WorkerStage) → Traced stage → AreSourcedCopies script (effect stage).shared.book.entries
-  own_copies Look h = copies
-  own_copies Count h = copies
-  own_copies (End count) h = copies
-  own_copies (Copy count end words) h = copies
-  own_copies (Take taken) h = copies
   own_copies (Answer taken) h = more_copies script es (entry_of w.shared.book.space t c taken (target_decision w.shared.book t taken)) copies h
-  own_copies (Give taken reply) h = copies
-  own_copies (Reply taken reply i) h = copies
-  own_copies (Ack taken reply) h = copies
+  own_copies _ h = copies

@@ -1,6 +1,5 @@
 -- A step of a worker makes no entry that is not owed.
 use Rattle.std.proofs.Common.{◌≡◌, ◌≢◌, ◌∙◌, refl, ap, subst, sym, ℕ, ◌+◌, ◌*◌, ◌%◌, ◌<◌, ◌≤◌, Bool, true, false, ◌&&◌, ◌==◌, if◌then◌else◌, List, [], ◌∷◌, ◌++◌, length, set, get_or, get_or-set_same, get_or-set_other, is_none, arith}
-use Rattle.std.proofs.lemmas.Bool.Decides.{nat_tests}
 use Rattle.std.proofs.lemmas.List.Sums.{sum_by-append, sum_by-cons}
 use Rattle.std.specs.Prelude.{nat_lt, slice_index}
 use Rattle.sb_actor.specs.Moves.{at}
@@ -17,18 +16,15 @@ use Rattle.sb_core.specs.Tallies.{entries_on, one_if}
 use Rattle.sb_core.specs.Words.{exchanged, loaded, stored, words_of}
 use Rattle.sb_core.specs.Worlds.{WorldAt}
 use Rattle.sb_core.proofs.There.{words_listed}
+use Rattle.sb_core.proofs.Numbers.{is_same, not_same, self_same}
 
 -- whether an entry is still to come from a channel in this state: the worker is at it and has not marked, or the state is 3
 abbrev pub owed_at : WorkerStage → ℕ → ℕ
 owed_at Look s = one_if (s == 3)
-owed_at Count s = 1
-owed_at (End count) s = 1
-owed_at (Copy count end words) s = 1
-owed_at (Take taken) s = 1
-owed_at (Answer taken) s = 1
 owed_at (Give taken reply) s = 0
 owed_at (Reply taken reply i) s = 0
 owed_at (Ack taken reply) s = 0
+owed_at _ s = 1
 
 abbrev pub owed_by : Bool → WorkerStage → ℕ → ℕ
 owed_by b stage s = if b then owed_at stage s else one_if (s == 3)
@@ -42,15 +38,6 @@ entries_more t c es e =
     let all = sum_by-append (λ (e : Entry). one_if (e.target == t && e.channel == c)) es (e ∷ []) in
     let last = sum_by-cons (λ (e : Entry). one_if (e.target == t && e.channel == c)) e [] in
     omega (arith, all, last)
-
-is_same : (x y : ℕ) → (x == y) ≡ true → x ≡ y
-is_same x y e = grind (arith, nat_tests)
-
-not_same : (x y : ℕ) → (x == y) ≡ false → x ≢ y
-not_same x y e = grind (arith, nat_tests)
-
-self_same : (x : ℕ) → (x == x) ≡ true
-self_same x = grind (arith, nat_tests)
 
 -- a worker that looks owes by the state alone, wherever it is
 pub looking_owed : (b : Bool) (s : ℕ) → owed_by b Look s ≡ one_if (s == 3)
@@ -123,26 +110,25 @@ module _ (w : WorldAt) (t channels d : ℕ) (kept : IsWorld w) (there : t < leng
 
   -- after the acknowledgement the state is not 3
   acked : (b : Bool) → (get_or words (at d 0) 0 == 3) ≡ b
-      → one_if (slice_index (if b then set words (at d 0) 4 else words) (at c 0) == 3) ≤ owed_by (d == c) (Ack (copied 0 0 []) []) state
-  acked b e = by_place (d == c) refl b e
+      → one_if (slice_index (set words (at d 0) (if b then 4 else get_or words (at d 0) 0)) (at c 0) == 3) ≤ owed_by (d == c) (Ack (copied 0 0 []) []) state
+  acked b e = by_place (d == c) refl (if b then 4 else get_or words (at d 0) 0) (no_more b (get_or words (at d 0) 0) e)
     where
-      by_place : (p : Bool) → (d == c) ≡ p → (b : Bool) → (get_or words (at d 0) 0 == 3) ≡ b → one_if (slice_index (if b then set words (at d 0) 4 else words) (at c 0) == 3) ≤ owed_by p (Ack (copied 0 0 []) []) state
-      by_place true f true e =
-          let same = is_same d c f in
-          let four : slice_index (set words (at d 0) 4) (at c 0) ≡ 4 =
-          subst (λ z. slice_index (set words (at z 0) 4) (at c 0) ≡ 4) (sym same) (get_or-set_same words (at c 0) 4 0 inside) in
-          let none : one_if (slice_index (set words (at d 0) 4) (at c 0) == 3) ≡ 0 = ap (λ z. one_if (z == 3)) four in
-          omega (arith, none)
-      by_place true f false e =
-          let here : slice_index words (at d 0) ≡ state = ap (λ z. slice_index words (at z 0)) (is_same d c f) in
-          let none : one_if (state == 3) ≡ 0 = ap one_if (ap (λ z. z == 3) (sym here) ∙ e) in
-          omega (arith, none)
-      by_place false f true e =
+      no_more : (b : Bool) (n : ℕ) → (n == 3) ≡ b → one_if ((if b then 4 else n) == 3) ≡ 0
+      no_more true n e = refl
+      no_more false n e = ap one_if e
+
+      by_place : (p : Bool) → (d == c) ≡ p → (value : ℕ) → one_if (value == 3) ≡ 0
+          → one_if (slice_index (set words (at d 0) value) (at c 0) == 3) ≤ owed_by p (Ack (copied 0 0 []) []) state
+      by_place true f value none =
+          let now : slice_index (set words (at d 0) value) (at c 0) ≡ value =
+          subst (λ z. slice_index (set words (at z 0) value) (at c 0) ≡ value) (sym (is_same d c f)) (get_or-set_same words (at c 0) value 0 inside) in
+          let same : one_if (slice_index (set words (at d 0) value) (at c 0) == 3) ≡ one_if (value == 3) = ap (λ z. one_if (z == 3)) now in
+          omega (arith, same, none)
+      by_place false f value none =
           let ne = not_same d c f in
-          let as_before : slice_index (set words (at d 0) 4) (at c 0) ≡ state = get_or-set_other words (at d 0) (at c 0) 4 0 (λ g. ne (omega (arith, g))) in
-          let same : one_if (slice_index (set words (at d 0) 4) (at c 0) == 3) ≡ one_if (state == 3) = ap (λ z. one_if (z == 3)) as_before in
+          let as_before : slice_index (set words (at d 0) value) (at c 0) ≡ state = get_or-set_other words (at d 0) (at c 0) value 0 (λ g. ne (omega (arith, g))) in
+          let same : one_if (slice_index (set words (at d 0) value) (at c 0) == 3) ≡ one_if (state == 3) = ap (λ z. one_if (z == 3)) as_before in
           omega (arith, same)
-      by_place false f false e = omega arith
 
   plus : (n a b : ℕ) → a ≤ b → n + a ≤ n + b
   plus n a b l = omega (arith, l)
@@ -170,7 +156,7 @@ module _ (w : WorldAt) (t channels d : ℕ) (kept : IsWorld w) (there : t < leng
       ≤ entries_on t c w.shared.book.entries + owed_by (d == c) (Reply taken reply i) state) (sym as_before)
       (plus (entries_on t c w.shared.book.entries) _ _ (two (i == 11) (Ack taken reply) (Reply taken reply (i + 1)) (Reply taken reply i) refl refl))
   own_owed (Ack taken reply) s =
-      let new = exchanged words (record { channel = d; at = 0 }) 3 4 in
+      let new = stored words (record { channel = d; at = 0 }) (exchanged (get_or words (at d 0) 0) 3 4) in
       subst (λ (z : List ℕ). entries_on t c w.shared.book.entries + owed (worker_after (at_this (Ack taken reply)) (effect (Ack taken reply)).seen) c (slice_index z (at c 0))
       ≤ entries_on t c w.shared.book.entries + owed_by (d == c) (Ack taken reply) state) (sym (written new))
       (plus (entries_on t c w.shared.book.entries) _ _

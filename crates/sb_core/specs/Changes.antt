@@ -10,6 +10,7 @@ use Rattle.sb_statements.specs.declared.results.StmtResult.{StmtResult}
 use Rattle.sb_statements.specs.declared.schedules.Actor.{Actor}
 use Rattle.sb_statements.specs.declared.schedules.Actor.TheVariants.{Worker, Thread}
 use Rattle.sb_statements.specs.declared.scripts.Script.{Script}
+use Rattle.sb_core.specs.Shared.{is_answer}
 use Rattle.sb_core.specs.Words.{words_of}
 use Rattle.sb_statements.specs.Words.{place_of}
 use Rattle.sb_core.specs.Worlds.{WorldAt, worker_at, run_at}
@@ -23,41 +24,18 @@ plan_of script w (Thread target thread) = thread_plan script (run_at w target th
 abbrev pub writes : Act → ℕ → ℕ → Bool
 writes (act.Store target word value) t i = target == t && place_of word == i
 writes (act.Exchange target word from to) t i = target == t && place_of word == i
-writes (act.Load target word) t i = false
-writes act.Take t i = false
-writes act.Answer t i = false
-writes act.Give t i = false
-writes act.Idle t i = false
+writes _ t i = false
 
 -- it loads a word
 abbrev pub is_load : Act → Bool
 is_load (act.Load target word) = true
-is_load (act.Store target word value) = false
-is_load (act.Exchange target word from to) = false
-is_load act.Take = false
-is_load act.Answer = false
-is_load act.Give = false
-is_load act.Idle = false
+is_load _ = false
 
 -- it takes the turn or gives it back
 abbrev pub moves_turn : Act → Bool
 moves_turn act.Take = true
 moves_turn act.Give = true
-moves_turn act.Answer = false
-moves_turn act.Idle = false
-moves_turn (act.Load target word) = false
-moves_turn (act.Store target word value) = false
-moves_turn (act.Exchange target word from to) = false
-
--- the book answers
-abbrev pub is_mark : Act → Bool
-is_mark act.Answer = true
-is_mark act.Take = false
-is_mark act.Give = false
-is_mark act.Idle = false
-is_mark (act.Load target word) = false
-is_mark (act.Store target word value) = false
-is_mark (act.Exchange target word from to) = false
+moves_turn _ = false
 
 -- the results of a thread after a step: as they were, or one more
 abbrev pub IsOneMore : List StmtResult → List StmtResult → Type 0
@@ -68,7 +46,7 @@ pub record Changes (actor : Actor) (plan : Act) (w v : WorldAt) : Type 0 where
   pub words : (t i : ℕ) → writes plan t i ≡ false → slice_index (words_of v.shared.words t) i ≡ slice_index (words_of w.shared.words t) i
   pub sizes : (t : ℕ) → length (words_of v.shared.words t) ≡ length (words_of w.shared.words t)
   pub turn : moves_turn plan ≡ false → v.shared.turn ≡ w.shared.turn
-  pub book : is_mark plan ≡ false → v.shared.book ≡ w.shared.book
+  pub book : is_answer plan ≡ false → v.shared.book ≡ w.shared.book
   pub setting : v.shared.book.setting ≡ w.shared.book.setting
   pub workers : (t : ℕ) → actor ≢ Worker t → worker_at v t ≡ worker_at w t
   pub threads : (t k : ℕ) → actor ≢ Thread t k → run_at v t k ≡ run_at w t k

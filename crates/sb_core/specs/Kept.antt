@@ -18,15 +18,9 @@ use Rattle.sb_core.specs.Worlds.{WorldAt, worker_at, threads_at, run_at}
 
 -- the worker is in Answer or Give
 abbrev pub has_turn : WorkerStage → Bool
-has_turn worker.Look = false
-has_turn worker.Count = false
-has_turn (worker.End count) = false
-has_turn (worker.Copy count end words) = false
-has_turn (worker.Take taken) = false
 has_turn (worker.Answer taken) = true
 has_turn (worker.Give taken reply) = true
-has_turn (worker.Reply taken reply at) = false
-has_turn (worker.Ack taken reply) = false
+has_turn _ = false
 
 -- the turn is with the worker of this target
 abbrev pub is_holder : Option ℕ → ℕ → Bool
@@ -72,15 +66,9 @@ pub record IsWorld (w : WorldAt) : Type 0 where
 
 -- the stage is one of a call
 abbrev pub is_calling : ThreadStage → Bool
-is_calling (Try c rounds all_abandoned) = true
-is_calling (Fill c i) = true
-is_calling (Send c) = true
-is_calling (Wait c loads) = true
-is_calling (Fetch c words) = true
-is_calling (Free c words) = true
-is_calling (Abandon c) = true
 is_calling (Stray loads most) = false
 is_calling Over = false
+is_calling _ = true
 
 -- the channel of such a stage
 abbrev pub channel_in : ThreadStage → Option ℕ
@@ -91,8 +79,7 @@ channel_in (Wait c loads) = Some c
 channel_in (Fetch c words) = Some c
 channel_in (Free c words) = Some c
 channel_in (Abandon c) = Some c
-channel_in (Stray loads most) = None
-channel_in Over = None
+channel_in _ = None
 
 -- A thread is at a statement of its script, in a stage of that kind of statement, with the block of it if it is a call, or
 -- after the last one. It has the script's patience and its target's clean channels

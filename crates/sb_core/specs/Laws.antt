@@ -80,15 +80,12 @@ TurnsAreHeld = (w : WorldAt) → IsWorld w
 
 -- the copy that a worker took, from its end until the reply is acknowledged
 abbrev pub copy_in : WorkerStage → Option Copied
-copy_in Look = None
-copy_in Count = None
-copy_in (End count) = None
-copy_in (Copy count end words) = None
 copy_in (Take taken) = Some taken
 copy_in (Answer taken) = Some taken
 copy_in (Give taken reply) = Some taken
 copy_in (Reply taken reply at) = Some taken
 copy_in (Ack taken reply) = Some taken
+copy_in _ = None
 
 -- a worker judges what it copied: from the end of the copy until the reply is acknowledged it loads nothing, and after each step it keeps the copy or looks on
 abbrev pub CopiesAreJudged : Type 0

@@ -4,7 +4,6 @@ pub mod Shared
 pub mod Threads
 pub mod Worlds
 pub mod Drains
-pub mod Leaps
 pub mod Kept
 pub mod Reports
 pub mod Runs

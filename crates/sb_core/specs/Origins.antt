@@ -31,9 +31,7 @@ use Rattle.sb_core.specs.Worlds.{WorldAt}
 abbrev pub StoresThere : ℕ → ℕ → ℕ → ℕ → Statement → Type 0
 StoresThere t c j x (statement.Store u word value) = (u ≡ t) × (word.channel ≡ c) × (word.at ≡ j) × (value ≡ x)
 StoresThere t c j x (statement.Exchange u word from to) = (u ≡ t) × (word.channel ≡ c) × (word.at ≡ j) × (to ≡ x)
-StoresThere t c j x (statement.Load u word) = ⊥
-StoresThere t c j x (statement.Wait u word value most) = ⊥
-StoresThere t c j x (statement.Call tag args) = ⊥
+StoresThere t c j x _ = ⊥
 
 -- some thread has such a statement
 abbrev pub IsStoredDirectly : Script → ℕ → ℕ → ℕ → ℕ → Type 0
@@ -82,10 +80,9 @@ pub record IsSourcedReply (script : Script) (entries : List Entry) (t c : ℕ) (
 -- the values that the result of a call shows
 abbrev pub ShowsCall : Script → List Entry → ℕ → CallResult → Type 0
 ShowsCall script entries t (call.Reply c reply) = IsSourcedReply script entries t c reply
-ShowsCall script entries t call.NoChannel = Unit {0}
 ShowsCall script entries t (call.SendLost c found) = HasStateSource script t c found
 ShowsCall script entries t (call.Foreign c mark) = HasBlockSource script entries t c 3 mark
-ShowsCall script entries t (call.TimedOut c) = Unit {0}
+ShowsCall script entries t _ = Unit {0}
 
 -- each value that a result of a thread of target t shows has a source at the word from which it was loaded
 abbrev pub Shows : Script → List Entry → ℕ → Statement → StmtResult → Type 0

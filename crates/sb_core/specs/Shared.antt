@@ -9,12 +9,28 @@ use Rattle.sb_actor.specs.Observations as seen
 use Rattle.sb_block.specs.Copies.{Copied, mark_of}
 use Rattle.sb_book.specs.Histories.{History, answered, reply_of, target_decision}
 use Rattle.sb_core.specs.Words.{loaded, stored, exchanged, words_of, IsWordThere}
+use Rattle.sb_statements.specs.declared.statements.Word.{Word}
 
 -- for each target its channel words, the target whose worker has the turn, and the book with entries and namespace
 pub record SharedAt : Type 0 where
   pub words : List (List ℕ)
   pub turn : Option ℕ
   pub book : History
+
+-- what a step changes: nothing; a word of a target, which is set to a value; the turn, which goes to the worker of a target or to nobody; or the book,
+-- which answers
+pub data Change : Type 0 where
+  Nothing : Change
+  Sets : ℕ → Word → ℕ → Change
+  Turns : Option ℕ → Change
+  Answers : History → Change
+
+-- what all share after a change
+abbrev pub changed : SharedAt → Change → SharedAt
+changed s Nothing = s
+changed s (Sets t word value) = record s { words = slice_set s.words t (stored (words_of s.words t) word value) }
+changed s (Turns turn) = record s { turn = turn }
+changed s (Answers book) = record s { book = book }
 
 -- what a step finds, and what all share after it
 pub record Effect : Type 0 where
@@ -24,20 +40,13 @@ pub record Effect : Type 0 where
 abbrev pub finds : Observation → SharedAt → Effect
 finds seen shared = record { seen = seen; shared = shared }
 
--- the words of a target changed
-abbrev pub with_words : SharedAt → ℕ → List ℕ → SharedAt
-with_words s target words = record s { words = slice_set s.words target words }
-
--- a step on a word. Each is atomic. Steps on the turn, and that of a finished thread, find nothing here and leave all as it was
+-- a step on a word. Each is atomic. Steps on the turn, and that of a finished thread, find nothing here and change nothing
 abbrev pub on_word : SharedAt → Act → Effect
--- a step = what it finds, and what it leaves
+-- a step = what it finds, and what it changes
 on_word s (act.Load t word) = finds (seen.Value (loaded (words_of s.words t) word)) s
-on_word s (act.Store t word value) = finds seen.Done (with_words s t (stored (words_of s.words t) word value))
-on_word s (act.Exchange t word from to) = finds (seen.Value (loaded (words_of s.words t) word)) (with_words s t (exchanged (words_of s.words t) word from to))
-on_word s act.Take = finds seen.Done s
-on_word s act.Answer = finds seen.Done s
-on_word s act.Give = finds seen.Done s
-on_word s act.Idle = finds seen.Done s
+on_word s (act.Store t word value) = finds seen.Done (changed s (Sets t word value))
+on_word s (act.Exchange t word from to) = finds (seen.Value (loaded (words_of s.words t) word)) (changed s (Sets t word (exchanged (loaded (words_of s.words t) word) from to)))
+on_word s _ = finds seen.Done s
 
 -- the turn after the worker of a target tried to take it: only a turn that nobody has is got
 abbrev pub turn_taken : ℕ → Option ℕ → Option ℕ
@@ -48,19 +57,16 @@ turn_taken target (Some holder) = Some holder
 abbrev pub on_answer : SharedAt → ℕ → WorkerAt → Option Copied → Effect
 on_answer s target w (Some taken) =
     finds (seen.Answered (reply_of s.book.space target (mark_of taken) (target_decision s.book target taken)))
-    (record s { book = answered s.book target w.channel taken (target_decision s.book target taken) })
+    (changed s (Answers (answered s.book target w.channel taken (target_decision s.book target taken))))
 on_answer s target w None = finds seen.Done s
 
 -- a step of the worker of a target: on a word, or on the turn
 abbrev pub on_worker : SharedAt → ℕ → WorkerAt → Act → Effect
--- a step = what it finds, and what it leaves
-on_worker s target w act.Take = finds (seen.Turn (is_none s.turn)) (record s { turn = turn_taken target s.turn })
+-- a step = what it finds, and what it changes
+on_worker s target w act.Take = finds (seen.Turn (is_none s.turn)) (changed s (Turns (turn_taken target s.turn)))
 on_worker s target w act.Answer = on_answer s target w (taken_in w.stage)
-on_worker s target w act.Give = finds seen.Done (record s { turn = None })
-on_worker s target w (act.Load t word) = on_word s (act.Load t word)
-on_worker s target w (act.Store t word value) = on_word s (act.Store t word value)
-on_worker s target w (act.Exchange t word from to) = on_word s (act.Exchange t word from to)
-on_worker s target w act.Idle = on_word s act.Idle
+on_worker s target w act.Give = finds seen.Done (changed s (Turns None))
+on_worker s target w a = on_word s a
 
 -- what a step of a worker leaves: what all share, and the worker
 pub record WorkerStep : Type 0 where
@@ -78,19 +84,11 @@ worker_step_of s target w = worker_by w (on_worker s target w (worker_plan w))
 -- the step of a worker whose copy the book answers
 abbrev pub is_answer : Act → Bool
 is_answer act.Answer = true
-is_answer act.Take = false
-is_answer act.Give = false
-is_answer (act.Load t word) = false
-is_answer (act.Store t word value) = false
-is_answer (act.Exchange t word from to) = false
-is_answer act.Idle = false
+is_answer _ = false
 
 -- a step on a word is on one that is there
 abbrev pub IsActThere : List (List ℕ) → Act → Type 0
 IsActThere words (act.Load t word) = IsWordThere words t word
 IsActThere words (act.Store t word value) = IsWordThere words t word
 IsActThere words (act.Exchange t word from to) = IsWordThere words t word
-IsActThere words act.Take = Unit {0}
-IsActThere words act.Answer = Unit {0}
-IsActThere words act.Give = Unit {0}
-IsActThere words act.Idle = Unit {0}
+IsActThere words _ = Unit {0}

@@ -34,15 +34,11 @@ abbrev pub ends_call : ℕ → CallResult → Bool
 ends_call c (call.Reply d reply) = d == c
 ends_call c (call.Foreign d mark) = d == c
 ends_call c (call.TimedOut d) = d == c
-ends_call c call.NoChannel = false
-ends_call c (call.SendLost d found) = false
+ends_call c _ = false
 
 abbrev pub ends_on : ℕ → StmtResult → Bool
 ends_on c (result.Call r) = ends_call c r
-ends_on c result.Stored = false
-ends_on c (result.Found n) = false
-ends_on c (result.Met loads) = false
-ends_on c (result.Unmet loads) = false
+ends_on c _ = false
 
 -- the state word of this channel
 abbrev pub is_state : ℕ → ℕ → ℕ → Word → Bool
@@ -86,15 +82,11 @@ EntriesAreFew = (policies : List Policy) (script : Script) (schedule : Schedule)
 
 -- the present call of a thread was handed over on this channel
 abbrev pub has_sent : ℕ → ThreadStage → Bool
-has_sent c (Try d rounds all_abandoned) = false
-has_sent c (Fill d i) = false
-has_sent c (Send d) = false
 has_sent c (Wait d loads) = d == c
 has_sent c (Fetch d words) = d == c
 has_sent c (Free d words) = d == c
 has_sent c (Abandon d) = d == c
-has_sent c (Stray loads most) = false
-has_sent c Over = false
+has_sent c _ = false
 
 -- what a thread handed over on channel c of target t so far, or made ready there: by its results, and its present call
 abbrev pub tally_so_far : Script → ℕ → ℕ → RunAt → ℕ

@@ -33,15 +33,10 @@ calls_at t entries = map as_call (of_target t entries)
 
 -- the call that has its entry and is not acknowledged yet
 abbrev pub in_work : ℕ → WorkerStage → List Served
-in_work c Look = []
-in_work c Count = []
-in_work c (End count) = []
-in_work c (Copy count end words) = []
-in_work c (Take taken) = []
-in_work c (Answer taken) = []
 in_work c (Give taken reply) = record { channel = c; taken = taken; reply = reply } ∷ []
 in_work c (Reply taken reply at) = record { channel = c; taken = taken; reply = reply } ∷ []
 in_work c (Ack taken reply) = record { channel = c; taken = taken; reply = reply } ∷ []
+in_work c _ = []
 
 -- a call that got its reply: on which channel, with which block, and what was replied
 pub record OwnCall : Type 0 where
@@ -59,17 +54,11 @@ own_if b x = if b then x ∷ [] else []
 
 abbrev pub own_call : List Bool → List ℕ → CallResult → List OwnCall
 own_call clean block (call.Reply c reply) = own_if (is_clean clean c) (record { channel = c; block = block; reply = reply })
-own_call clean block call.NoChannel = []
-own_call clean block (call.SendLost c found) = []
-own_call clean block (call.Foreign c mark) = []
-own_call clean block (call.TimedOut c) = []
+own_call clean block _ = []
 
 abbrev pub own_of : List Bool → List ℕ → StmtResult → List OwnCall
 own_of clean block (result.Call r) = own_call clean block r
-own_of clean block result.Stored = []
-own_of clean block (result.Found n) = []
-own_of clean block (result.Met loads) = []
-own_of clean block (result.Unmet loads) = []
+own_of clean block _ = []
 
 -- those of a thread's results from a place on, each with the block of its statement
 abbrev pub own_from : Script → ℕ → ℕ → ℕ → List StmtResult → List OwnCall

@@ -23,9 +23,9 @@ loaded words word = slice_index words (place_of word)
 abbrev pub stored : List ℕ → Word → ℕ → List ℕ
 stored words word value = slice_set words (place_of word) value
 
--- the words with `to` stored into one of them if it held `from`; another value stays
-abbrev pub exchanged : List ℕ → Word → ℕ → ℕ → List ℕ
-exchanged words word from to = if loaded words word == from then stored words word to else words
+-- the value of a word after an exchange that found this one: another than `from` stays
+abbrev pub exchanged : ℕ → ℕ → ℕ → ℕ
+exchanged found from to = if found == from then to else found
 
 -- the state of one of the first n channels is 3
 abbrev pub is_ready_below : ℕ → List ℕ → Bool

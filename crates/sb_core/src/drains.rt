@@ -12,7 +12,7 @@ use sb_rule::Judge;
 use std::alloc::Global;
 
 /// Enough passes for every drain, which is a law.
-const MOST_PASSES: u32 = 10_000;
+const MAX_PASSES: u32 = 10_000;
 
 fn all_looking(workers: &[WorkerState]) -> bool
     ensures { result ≡ list_all (λ worker. is_looking worker.stage) workers.now }
@@ -53,7 +53,7 @@ pub(crate) fn settle<J: Judge>(alloc: Global, judge: &J, world: &mut World) -> R
     ensures err { OnErr result (IsBeginning world.old world.new) }
     ensures setting { world.new.shared.book.setting ≡ world.old.shared.book.setting }
 {
-    let mut left = MOST_PASSES;
+    let mut left = MAX_PASSES;
     while left > 0 && !is_settled(world) {
         make_pass(alloc, judge, world)?;
         left -= 1;

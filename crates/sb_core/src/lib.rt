@@ -2,8 +2,8 @@
 // thread of the machine. A schedule names every step, and each order of actors is that of a schedule.
 //
 // The steps are those of sb_actor's two tables. `specs/Worlds.antt` applies one row to the world, `specs/Shared.antt` says what a step
-// finds and leaves there, `specs/Drains.antt` and `specs/Runs.antt` fold steps into whole runs, `specs/Leaps.antt` makes several rounds
-// at once, and `specs/Laws.antt` says what holds of every run. `specs/Views.antt` says what is known of a target's actors in a world,
+// finds and leaves there, `specs/Drains.antt` and `specs/Runs.antt` fold steps into whole runs, and
+// `specs/Laws.antt` says what holds of every run. `specs/Views.antt` says what is known of a target's actors in a world,
 // `specs/Rules.antt` that rule S holds of it, and `specs/OfScripts.antt` that each world of a script keeps it, whatever steps led there.
 // `specs/Fits.antt` says when a report fits its script, `specs/Origins.antt` where its words come from, `specs/Tallies.antt` how many
 // entries a channel has at most, `specs/EntryCounts.antt` how many a run has, and `specs/Findings.antt` why each statement ended with its result. What real threads did ends in
@@ -14,7 +14,6 @@
 mod drains;
 mod finishes;
 mod laws;
-mod leaps;
 mod lists;
 mod rounds;
 mod rules;

@@ -1,16 +1,15 @@
 // What all actors share, and one step there.
-ghost use Rattle.std.specs.Prelude.{◌≡◌, ◌<◌, true, false, length, slice_index, is_none, is_some, None, IfOk, IfSome, OnOk, OnErr};
+ghost use Rattle.std.specs.Prelude.{◌≡◌, ◌<◌, true, false, length, slice_index, is_none, is_some, None, IfOk, OnOk, OnErr};
 ghost use Rattle.sb_actor.specs.declared.acts.Act.TheVariants.{Answer};
-ghost use Rattle.sb_actor.specs.Acts.{observation, state_word};
+ghost use Rattle.sb_actor.specs.Acts.{observation};
 ghost use Rattle.sb_actor.specs.Observations.{Answered, Value, Done, Turn};
-ghost use Rattle.sb_actor.specs.WorkerStages.{WorkerAt};
 ghost use Rattle.sb_actor.specs.WorkerTable.{taken_in, IsAnswer};
 ghost use Rattle.sb_book.specs.Histories.{JudgesBy};
-ghost use Rattle.sb_core.specs.Shared.{is_answer, on_word, on_worker, on_answer, turn_taken, with_words, IsActThere};
-ghost use Rattle.sb_core.specs.Words.{loaded, stored, exchanged, some_ready, words_of, IsWordThere};
+ghost use Rattle.sb_core.specs.Shared.{changed, on_answer, turn_taken, Sets, Turns};
+ghost use Rattle.sb_core.specs.Words.{loaded, exchanged, some_ready, words_of, IsWordThere};
 
 use crate::words::TargetWords;
-use sb_actor::{Act, Observed, WorkerState};
+use sb_actor::{Act, Memory, Observed, WorkerState};
 use sb_base::NoMemory;
 use sb_book::{Book, decide};
 use sb_call::Reply;
@@ -41,32 +40,14 @@ impl Shared {
         requires { IsWordThere self.now.words target word }
         ensures { observation result ≡ Value (loaded (words_of self.now.words target) word) }
     {
-        Observed::Value(self.value(target, word))
+        Observed::Value(self.words[target as usize].load(word))
     }
 
-    /// What a word of a target holds.
-    #[inline(always)]
-    pub(crate) fn value(&self, target: u32, word: Word) -> u64
-        requires { IsWordThere self.now.words target word }
-        ensures { result ≡ loaded (words_of self.now.words target) word }
-    {
-        self.words[target as usize].load(word)
-    }
-
-    /// The state of a channel of a target.
-    #[inline(always)]
-    pub(crate) fn state(&self, target: u32, channel: u32) -> u64
-        requires { IsWordThere self.now.words target (state_word channel) }
-        ensures { result ≡ loaded (words_of self.now.words target) (state_word channel) }
-    {
-        self.value(target, Word { channel, at: 0 })
-    }
-
-    /// Stores a value into a word of a target.
-    pub(crate) fn store(&mut self, target: u32, word: Word, value: u64) -> Observed
+    // A store.
+    fn store(&mut self, target: u32, word: Word, value: u64) -> Observed
         requires { IsWordThere self.old.words target word }
         ensures seen { observation result ≡ Done }
-        ensures shared { self.new ≡ with_words self.old target (stored (words_of self.old.words target) word value) }
+        ensures shared { self.new ≡ changed self.old (Sets target word value) }
     {
         self.words[target as usize].store(word, value);
         Observed::Done
@@ -76,15 +57,15 @@ impl Shared {
     fn exchange(&mut self, target: u32, word: Word, from: u64, to: u64) -> Observed
         requires { IsWordThere self.old.words target word }
         ensures seen { observation result ≡ Value (loaded (words_of self.old.words target) word) }
-        ensures shared { self.new ≡ with_words self.old target (exchanged (words_of self.old.words target) word from to) }
+        ensures shared { self.new ≡ changed self.old (Sets target word (exchanged (loaded (words_of self.old.words target) word) from to)) }
     {
         Observed::Value(self.words[target as usize].exchange(word, from, to))
     }
 
-    // The worker of a target takes the turn, if nobody has it.
-    fn take_turn(&mut self, target: u32) -> Observed
+    /// The worker of a target takes the turn, if nobody has it.
+    pub(crate) fn take_turn(&mut self, target: u32) -> Observed
         ensures seen { observation result ≡ Turn (is_none self.old.turn) }
-        ensures shared { self.new ≡ record self.old { turn = turn_taken target self.old.turn } }
+        ensures shared { self.new ≡ changed self.old (Turns (turn_taken target self.old.turn)) }
     {
         match self.turn {
             Some(_) => Observed::Turn(false),
@@ -95,10 +76,10 @@ impl Shared {
         }
     }
 
-    // The turn is given back.
-    fn give_turn(&mut self) -> Observed
+    /// The turn is given back.
+    pub(crate) fn give_turn(&mut self) -> Observed
         ensures seen { observation result ≡ Done }
-        ensures shared { self.new ≡ record self.old { turn = None } }
+        ensures shared { self.new ≡ changed self.old (Turns None) }
     {
         self.turn = None;
         Observed::Done
@@ -133,12 +114,26 @@ impl Shared {
         Ok(reply)
     }
 
-    /// Makes the step of a thread, which is on a word, and gives what it found.
-    pub(crate) fn perform(&mut self, act: Act) -> Observed
-        requires { IsActThere self.old.words act }
-        ensures seen { observation result ≡ (on_word self.old act).seen }
-        ensures shared { self.new ≡ (on_word self.old act).shared }
+    /// Whether a state word is 3.
+    pub(crate) fn some_ready(&self) -> bool
+        ensures { result ≡ some_ready self.now.words }
     {
+        self.words.iter().any(|words| words.has_ready())
+    }
+}
+
+// Steps on words. Steps on the turn find nothing here, and leave all as it was.
+impl Memory for Shared {
+    ghost use Rattle.sb_core.specs.Shared.{IsActThere, on_word};
+
+    ghost allows = { λ s a. IsActThere s.words a };
+
+    ghost finds = { λ s a. (on_word s a).seen };
+
+    ghost leaves = { λ s a. (on_word s a).shared };
+
+    #[inline(always)]
+    fn access(&mut self, act: Act) -> Observed {
         match act {
             Act::Load { target, word } => self.load(target, word),
             Act::Store {
@@ -154,29 +149,5 @@ impl Shared {
             } => self.exchange(target, word, from, to),
             Act::Take | Act::Answer | Act::Give | Act::Idle => Observed::Done,
         }
-    }
-
-    /// Makes the step of the worker of a target, and gives what it found. None at Answer, which is a step of the book (`answer_copy`).
-    pub(crate) fn work(&mut self, target: u32, act: Act) -> Option<Observed>
-        requires there { IsActThere self.old.words act }
-        ensures answer { is_none result ≡ true → (act ≡ Answer) × (self.new ≡ self.old) }
-        ensures seen { (worker : WorkerAt) → IfSome result (λ observed. (is_answer act ≡ false) × (observation observed ≡ (on_worker self.old target worker act).seen)) }
-        ensures shared { (worker : WorkerAt) → IfSome result (λ observed. self.new ≡ (on_worker self.old target worker act).shared) }
-    {
-        match act {
-            Act::Take => Some(self.take_turn(target)),
-            Act::Answer => None,
-            Act::Give => Some(self.give_turn()),
-            Act::Load { .. } | Act::Store { .. } | Act::Exchange { .. } | Act::Idle => {
-                Some(self.perform(act))
-            }
-        }
-    }
-
-    /// Whether a state word is 3.
-    pub(crate) fn some_ready(&self) -> bool
-        ensures { result ≡ some_ready self.now.words }
-    {
-        self.words.iter().any(|words| words.has_ready())
     }
 }

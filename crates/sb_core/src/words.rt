@@ -1,7 +1,5 @@
 // The channel words of a target.
-ghost use Rattle.std.specs.Prelude.{◌≡◌, ◌+◌, ◌<◌, ◌≤◌, length, IfOk};
-ghost use Rattle.sb_actor.specs.Acts.{state_word};
-ghost use Rattle.sb_core.specs.Leaps.{loaded_from, stored_from};
+ghost use Rattle.std.specs.Prelude.{◌≡◌, ◌+◌, ◌<◌, length, IfOk};
 ghost use Rattle.sb_core.specs.Words.{free_channel, free_channels, loaded, stored, exchanged, has_ready};
 ghost use Rattle.sb_statements.specs.Words.{place_of};
 
@@ -90,44 +88,12 @@ impl TargetWords {
     pub(crate) fn exchange(&mut self, word: Word, from: u64, to: u64) -> u64
         requires { place_of word < length self.old }
         ensures found { result ≡ loaded self.old word }
-        ensures after { self.new ≡ exchanged self.old word from to }
+        ensures after { self.new ≡ stored self.old word (exchanged (loaded self.old word) from to) }
     {
         let at = word.place();
         let found = self.words[at];
-        if found == from {
-            self.words[at] = to;
-        }
+        self.words[at] = if found == from { to } else { found };
         found
-    }
-
-    /// The state of a channel; 0 if the channel is not there.
-    #[inline(always)]
-    pub(crate) fn state(&self, channel: u32) -> u64
-        ensures { result ≡ loaded self.now (state_word channel) }
-    {
-        match self.words.get(Word { channel, at: 0 }.place()) {
-            Some(value) => *value,
-            None => 0,
-        }
-    }
-
-    /// What `count` words from one on hold.
-    pub(crate) fn part(&self, word: Word, count: u32) -> &[u64]
-        requires { place_of word + count ≤ length self.now }
-        ensures { result.now ≡ loaded_from self.now count word }
-    {
-        let at = word.place();
-        &self.words[at..at + count as usize]
-    }
-
-    /// Stores values into the words from one on.
-    #[tactic(auto, using(crate::proofs::Targets::put_stored))]
-    pub(crate) fn store_from(&mut self, word: Word, values: &[u64])
-        requires { place_of word + length values.now ≤ length self.old }
-        ensures { self.new ≡ stored_from self.old (place_of word) values.now }
-    {
-        let at = word.place();
-        self.words[at..at + values.len()].copy_from_slice(values);
     }
 
     /// Whether the state of a channel is 3.

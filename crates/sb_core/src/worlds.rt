@@ -1,5 +1,5 @@
 // The world, and its steps.
-ghost use Rattle.std.specs.Prelude.{false, ◌≡◌, ◌<◌, ◌≤◌, length, true, IfOk, OnOk, OnErr};
+ghost use Rattle.std.specs.Prelude.{◌≡◌, ◌<◌, ◌≤◌, length, true, IfOk, OnOk, OnErr};
 ghost use Rattle.sb_actor.specs.WorkerTable.{worker_plan};
 ghost use Rattle.sb_actor.specs.declared.acts.Act.TheVariants.{Answer};
 ghost use Rattle.sb_book.specs.Histories.{JudgesBy};
@@ -9,13 +9,11 @@ ghost use Rattle.sb_statements.specs.Actors.{is_there};
 ghost use Rattle.sb_core.specs.Changes.{plan_of};
 ghost use Rattle.sb_core.specs.Drains.{IsBeginning, drained};
 ghost use Rattle.sb_core.specs.Kept.{IsRunning, IsWorld};
-ghost use Rattle.sb_core.specs.Leaps.{CanLeap};
 ghost use Rattle.sb_core.specs.OfScripts.{IsOfScript};
 ghost use Rattle.sb_core.specs.Threads.{first_unfinished};
-ghost use Rattle.sb_core.specs.Worlds.{start_world, worker_at, worker_step, step, all_over, rounds};
+ghost use Rattle.sb_core.specs.Worlds.{start_world, worker_at, worker_step, step, all_over};
 
 use crate::drains::settle;
-use crate::leaps::move_targets;
 use crate::shared::Shared;
 use crate::starts::{first_threads, first_words, first_workers};
 use crate::threads::TargetThreads;
@@ -152,26 +150,6 @@ impl World {
         Ok(())
     }
 
-    /// This many rounds at once. Does not allocate.
-    pub(crate) fn leap(&mut self, script: &SoundScript, count: u32)
-        requires running { IsRunning script.now self.old }
-        requires some { 0 < count }
-        requires can { CanLeap count self.old }
-        requires busy { all_over self.old ≡ false }
-        ensures made { self.new ≡ rounds count script.now self.old }
-        ensures running { IsRunning script.now self.new }
-        ensures setting { self.new.shared.book.setting ≡ self.old.shared.book.setting }
-    {
-        sound_parts();
-        let _script = script;
-        move_targets(
-            &mut self.shared,
-            &mut self.workers,
-            &mut self.threads,
-            count,
-        );
-    }
-
     /// The first thread with a statement that has not ended, as target and thread, numbered from 0.
     pub(crate) fn unfinished(&self, script: &SoundScript) -> Option<(u32, u32)>
         ensures { result ≡ first_unfinished script.now self.now.threads }
@@ -199,13 +177,6 @@ impl World {
         ensures few { result ≤ 8 }
     {
         self.workers.len() as u32
-    }
-
-    // How many targets have threads: each, in a world that runs its script.
-    pub(crate) fn target_count(&self) -> usize
-        ensures { result ≡ length self.now.threads }
-    {
-        self.threads.len()
     }
 
     /// One step of each worker in target order, again and again, until each is looking and no state word is 3. The judge judges the

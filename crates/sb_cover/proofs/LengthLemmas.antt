@@ -1,7 +1,11 @@
 -- A call is not shorter than one that has no longer string.
-use Rattle.std.proofs.Common.{◌≡◌, ◌∙◌, ◌≤◌, ◌<◌, ◌+◌, ◌/◌, ℕ, Bool, true, false, List, [], ◌∷◌, ◌&&◌, ◌||◌, eqb, ltb, length, refl, ap, sym, arith}
+use Rattle.std.proofs.Common.{◌≡◌, ◌∙◌, ◌≤◌, ◌<◌, ◌+◌, ◌/◌, ℕ, Bool, true, false, List, [], ◌∷◌, ◌&&◌, ◌||◌, eqb, ltb, length, length-append, refl, ap, sym, arith, suc, leb}
 use Rattle.std.proofs.lemmas.Bool.{and_parts, false≢true}
 use Rattle.std.proofs.lemmas.Bool.Decides.{nat_tests}
+use Rattle.sb_block.proofs.BlockLemmas.{block_len}
+use Rattle.sb_block.proofs.PackingLemmas.{packed_len}
+use Rattle.sb_block.specs.Blocks.{block, content_of, contents_of}
+use Rattle.sb_block.specs.Layout.{first_offset, most_words}
 use Rattle.sb_call.specs.Arguments.{fit, fits, fits_kind}
 use Rattle.sb_call.specs.Tags.{shape_of}
 use Rattle.sb_call.specs.declared.arguments.Arg.{Arg}
@@ -10,7 +14,7 @@ use Rattle.sb_call.specs.declared.tags.ParamKind.{ParamKind}
 use Rattle.sb_call.specs.declared.tags.ParamKind.TheVariants.{Text, Name, Num, Handle}
 use Rattle.sb_cover.specs.Calls.{IsNotLonger}
 use Rattle.sb_cover.specs.Choices.{units_in}
-use Rattle.sb_cover.specs.Lengths.{words_in, words_of, units_of, is_shorter, NotLongerIsAsShort}
+use Rattle.sb_cover.specs.Lengths.{words_in, words_of, units_of, block_words, is_shorter, NotLongerIsAsShort, SendableCallsEncode, ShortestIsSendable}
 
 strings_up : (m n : ℕ) → m ≤ n → (m + 3) / 4 ≤ (n + 3) / 4
 strings_up m n h = omega (arith, h)
@@ -53,3 +57,29 @@ not_longer_is_as_short tag a b f g h =
         and_false : (b : Bool) → (false || (b && false)) ≡ false
         and_false true = refl
         and_false false = refl
+
+as_many : (kinds : List ParamKind) (args : List Arg) → fit kinds args ≡ true → length args ≡ length kinds
+as_many [] [] f = refl
+as_many [] (a ∷ args) f = absurd (false≢true f)
+as_many (k ∷ kinds) [] f = absurd (false≢true f)
+as_many (k ∷ kinds) (a ∷ args) f = ap suc (as_many kinds args (and_parts (fits_kind k a) (fit kinds args) f).1)
+
+pub shortest_is_sendable : ShortestIsSendable
+shortest_is_sendable tag a b f g h can =
+    by (length a) (length b) (words_of a) (words_of b) (units_of a) (units_of b) (as_many (shape_of tag) a f ∙ sym (as_many (shape_of tag) b g)) h can
+  where
+    by : (k l m n x y : ℕ) → k ≡ l → (ltb n m || (eqb n m && ltb y x)) ≡ false → leb (16 + l + n) 64 ≡ true → leb (16 + k + m) 64 ≡ true
+    by k l m n x y same h can = grind (arith, nat_tests)
+
+content_words : (arg : Arg) → length (content_of arg) ≡ words_in arg
+content_words (arg.Num number) = refl
+content_words (arg.Str units) = packed_len units
+
+contents_words : (args : List Arg) → length (contents_of args) ≡ words_of args
+contents_words [] = refl
+contents_words (a ∷ args) = length-append (content_of a) (contents_of args) ∙ (λ i. content_words a i + contents_words args i)
+
+pub sendable_calls_encode : SendableCallsEncode
+sendable_calls_encode tag args h =
+    let long : length (block tag args 0) ≡ block_words args = block_len tag args 0 h ∙ ap (λ n. first_offset (length args) + n) (contents_words args) in
+    sym (λ i. h i && leb (long i) most_words)

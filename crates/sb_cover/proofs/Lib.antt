@@ -15,6 +15,8 @@ pub mod NumberPickLemmas
 pub mod OpeningLemmas
 pub mod ParamLemmas
 pub mod PickLemmas
+pub mod PlainLemmas
+pub mod PolicyLemmas
 pub mod PositionLemmas
 pub mod PruneLemmas
 pub mod ResidualLemmas

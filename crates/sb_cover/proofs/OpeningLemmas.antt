@@ -21,7 +21,7 @@ use Rattle.sb_rule.specs.declared.conditions.Cond.{Cond}
 use Rattle.sb_rule.specs.declared.policies.Rule.{Rule}
 use Rattle.sb_cover.specs.AskedConds.{by_negation, cond_at, is_met, no_cond, seen, seen_number}
 use Rattle.sb_cover.specs.Calls.{met_from}
-use Rattle.sb_cover.specs.Covers.{cut_args}
+use Rattle.sb_book.specs.Decisions.{read_only_args}
 use Rattle.sb_cover.specs.Opening.{AreMore, asked_of, rule_at, AreOpened, AllOpened, AreUnread, AllUnread, IsRulePut}
 use Rattle.sb_cover.specs.Pruning.{places, marks_by}
 use Rattle.sb_cover.specs.declared.asked_conds.AskedCond.{AskedCond}
@@ -66,7 +66,7 @@ first_seen : (a : Arg) → a ≡ seen true 0 a
 first_seen (arg.Num n) = refl
 first_seen (arg.Str u) = refl
 
-cut_seen : (args : List Arg) (p : ℕ) → arg_at (cut_args args) p ≡ seen true p (arg_at args p)
+cut_seen : (args : List Arg) (p : ℕ) → arg_at (read_only_args args) p ≡ seen true p (arg_at args p)
 cut_seen [] p = zero_cut p
 cut_seen (first ∷ []) zero = first_seen first
 cut_seen (first ∷ []) (suc p) = zero_cut (suc p)

@@ -6,7 +6,6 @@ use Rattle.std.proofs.lemmas.Bool.Decides.{nat_tests}
 use Rattle.std.proofs.Math.ListN.{get_or-map}
 use Rattle.std.proofs.lemmas.List.{get_or_past, take_all}
 use Rattle.std.proofs.lemmas.List.Folds.{list_any-append, list_any_more}
-use Rattle.sb_base.specs.Wide.{folded}
 use Rattle.sb_call.specs.declared.arguments.Arg.TheVariants as arg
 use Rattle.sb_explore.specs.Exploring.{is_letter}
 use Rattle.sb_rule.specs.Matching.{matches, LiteralsMatchTheSame}
@@ -16,7 +15,7 @@ use Rattle.sb_rule.specs.declared.cells.Cell.TheVariants.{Lit}
 use Rattle.sb_rule.specs.declared.conditions.Test.{Test}
 use Rattle.sb_rule.specs.declared.conditions.Test.TheVariants.{OneOf, Range, Mask, Equal, Like}
 use Rattle.sb_cover.specs.AskedConds.{by_negation, cond_at, cells_of_cond, cells_of_test, is_met, is_text, met, no_cond, TextsAreMatched}
-use Rattle.sb_cover.specs.Letters.{is_noted, AreKept, IsStandIn}
+use Rattle.sb_cover.specs.Letters.{has_letter, is_noted, AreKept, IsStandIn}
 use Rattle.sb_cover.specs.Modes.{mode_after, mode_of_word, accepts, is_accepting}
 use Rattle.sb_cover.specs.Positions.{cells_at, cells_from, is_position_of, tells}
 use Rattle.sb_cover.specs.Pruning.{is_needed, AgreeWhereNeeded, AllDecideAlike, AreSure}
@@ -24,7 +23,7 @@ use Rattle.sb_cover.specs.TextMachines.{mode_in, positions_in, told, Tells, Lead
 use Rattle.sb_cover.specs.declared.asked_conds.AskedCond.{AskedCond}
 use Rattle.sb_cover.specs.declared.open_rules.OpenQuestion.{OpenQuestion}
 use Rattle.sb_cover.proofs.LabelLemmas.{alike_alike, same_alike}
-use Rattle.sb_cover.proofs.LetterLemmas.{like_folded, like_other}
+use Rattle.sb_cover.proofs.LetterLemmas.{like_same, like_through, letter_in, like_other}
 use Rattle.sb_cover.proofs.ModeLemmas.{mode_of_longer, never_accepts, stays}
 use Rattle.sb_cover.proofs.SignLemmas.{other_position}
 
@@ -193,25 +192,27 @@ stands_none conds patterns questions first word numbers state next unit none sam
     (stands_empty conds patterns questions first word unit (subst (StandsFor conds patterns questions first word) (sym same ∙ nothing numbers none) before))
 
 -- one letter for each unit
-pub letter_for : (patterns : List (List Cell)) (letters state : List ℕ) (other : ℕ) → IsStandIn patterns other → is_letter letters other ≡ true
-    → list_all (is_noted patterns letters) (positions_in state) ≡ true → (is_letter letters 92 ≡ true) ⊎ (eqb (mode_in state) 5 ≡ true)
+pub letter_for : (patterns : List (List Cell)) (letters state : List ℕ) (other : ℕ) → IsStandIn patterns other → has_letter letters other ≡ true
+    → list_all (is_noted patterns letters) (positions_in state) ≡ true → (has_letter letters 92 ≡ true) ⊎ (eqb (mode_in state) 5 ≡ true)
     → (unit : ℕ) → (letter : ℕ) × (is_letter letters letter ≡ true) × IsLike patterns state unit letter
-letter_for patterns letters state other is here noted slash unit = by (is_letter letters (folded unit)) refl
+letter_for patterns letters state other is here noted slash unit = by (has_letter letters unit) refl
   where
-    no_slash : is_letter letters (folded unit) ≡ false → (eqb unit 92 ≡ false) ⊎ (eqb (mode_in state) 5 ≡ true)
+    no_slash : has_letter letters unit ≡ false → (eqb unit 92 ≡ false) ⊎ (eqb (mode_in state) 5 ≡ true)
     no_slash none = either slash
       where
-        differ : is_letter letters 92 ≡ true → (b : Bool) → eqb unit 92 ≡ b → eqb unit 92 ≡ false
-        differ is true e = absurd (false≢true (sym none ∙ ap (λ u. is_letter letters (folded u)) (eqb-true unit 92 e) ∙ is))
+        differ : has_letter letters 92 ≡ true → (b : Bool) → eqb unit 92 ≡ b → eqb unit 92 ≡ false
+        differ is true e = absurd (false≢true (sym none ∙ ap (has_letter letters) (eqb-true unit 92 e) ∙ is))
         differ is false e = e
 
-        either : (is_letter letters 92 ≡ true) ⊎ (eqb (mode_in state) 5 ≡ true) → (eqb unit 92 ≡ false) ⊎ (eqb (mode_in state) 5 ≡ true)
+        either : (has_letter letters 92 ≡ true) ⊎ (eqb (mode_in state) 5 ≡ true) → (eqb unit 92 ≡ false) ⊎ (eqb (mode_in state) 5 ≡ true)
         either (inl is) = inl (differ is (eqb unit 92) refl)
         either (inr m) = inr m
 
-    by : (b : Bool) → is_letter letters (folded unit) ≡ b → (letter : ℕ) × (is_letter letters letter ≡ true) × IsLike patterns state unit letter
-    by true e = (folded unit, e, like_folded patterns state unit)
-    by false e = (other, here, like_other patterns letters state unit other e is noted (no_slash e))
+    by : (b : Bool) → has_letter letters unit ≡ b → (letter : ℕ) × (is_letter letters letter ≡ true) × IsLike patterns state unit letter
+    by true e = let l = letter_in letters unit e in (l.0, l.1, like_same patterns state unit l.0 l.2)
+    by false e =
+        let l = letter_in letters other here in
+        (l.0, l.1, like_through patterns state unit other l.0 (like_other patterns letters state unit other e is noted (no_slash e)) (like_same patterns state other l.0 l.2))
 
 -- the state without numbers has the letters of the mode 0
 pub like_empty : (patterns : List (List Cell)) (unit letter : ℕ) → IsLike patterns (0 ∷ []) unit letter → IsLike patterns [] unit letter

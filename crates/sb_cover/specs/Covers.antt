@@ -1,29 +1,21 @@
 -- What a cover of the calls of a tag is.
-use Rattle.std.specs.Prelude.{◌≡◌, ◌+◌, ℕ, Bool, true, bit_and, List, [], ◌∷◌, take, if◌then◌else◌}
+use Rattle.std.specs.Prelude.{◌≡◌, ◌+◌, ℕ, Bool, true, List, [], ◌∷◌, take, if◌then◌else◌}
 use Rattle.std.specs.List.{Contains, filter, list_all}
+use Rattle.sb_book.specs.Decisions.{read_only_args}
 use Rattle.sb_call.specs.Arguments.{fits}
 use Rattle.sb_call.specs.declared.arguments.Arg.{Arg}
-use Rattle.sb_call.specs.declared.arguments.Arg.TheVariants as arg
 use Rattle.sb_call.specs.declared.tags.CallTag.{CallTag}
 use Rattle.sb_cover.specs.Calls.{IsNotLonger}
 use Rattle.sb_cover.specs.Choices.{is_passable}
 use Rattle.sb_cover.specs.declared.questions.Question.{Question}
-use Rattle.sb_rule.specs.Accesses.{read_only_bits}
 use Rattle.sb_rule.specs.Verdicts.{rule_holds, verdict_by, verdict_by_rule}
 use Rattle.sb_rule.specs.declared.policies.Rule.{Rule}
 use Rattle.sb_rule.specs.declared.verdicts.Verdict.{Verdict}
 use Rattle.sb_rule.specs.declared.verdicts.Verdict.TheVariants as verdict
 
--- the arguments with the access, which is the second of them, cut to the bits that only read
-abbrev pub cut_args : List Arg → List Arg
-cut_args [] = []
-cut_args (first ∷ []) = first ∷ []
-cut_args (first ∷ arg.Num access ∷ more) = first ∷ arg.Num (bit_and access read_only_bits) ∷ more
-cut_args (first ∷ arg.Str units ∷ more) = first ∷ arg.Str units ∷ more
-
 -- the arguments of which a question asks
 abbrev pub args_asked : Question → List Arg → List Arg
-args_asked question args = if question.is_cut then cut_args args else args
+args_asked question args = if question.is_cut then read_only_args args else args
 
 -- the answer: the first rules that hold, as many as are asked for
 abbrev pub answer : Question → CallTag → List Arg → List Rule

@@ -1,5 +1,6 @@
 pub mod AskedConds
 pub mod Bits
+pub mod CallAccesses
 pub mod Calls
 pub mod Choices
 pub mod Comparing
@@ -9,6 +10,8 @@ pub mod Lengths
 pub mod Letters
 pub mod Modes
 pub mod Opening
+pub mod PlainQuestions
+pub mod PolicyCovers
 pub mod Positions
 pub mod Pruning
 pub mod Shown

@@ -1,10 +1,10 @@
 -- How questions are opened: the rules for a tag, with the numbers of their conditions.
 use Rattle.std.specs.Prelude.{◌≡◌, ◌⊎◌, ◌++◌, ℕ, Bool, true, false, List, [], ◌∷◌, map, slice_index_or, if◌then◌else◌}
 use Rattle.std.specs.List.{filter, list_all}
+use Rattle.sb_book.specs.Decisions.{read_only_args}
 use Rattle.sb_call.specs.declared.arguments.Arg.{Arg}
 use Rattle.sb_call.specs.declared.tags.CallTag.{CallTag}
 use Rattle.sb_cover.specs.Calls.{met_from}
-use Rattle.sb_cover.specs.Covers.{cut_args}
 use Rattle.sb_cover.specs.Pruning.{places, marks_by}
 use Rattle.sb_cover.specs.declared.asked_conds.AskedCond.{AskedCond}
 use Rattle.sb_cover.specs.declared.open_rules.OpenRule.{OpenRule}
@@ -24,7 +24,7 @@ rule_at tag rules place = slice_index_or rules place (record { tag = tag; conds 
 
 -- the arguments of which a condition is asked
 abbrev pub asked_of : Bool → List Arg → List Arg
-asked_of is_cut args = if is_cut then cut_args args else args
+asked_of is_cut args = if is_cut then read_only_args args else args
 
 -- the open rules are at the places of the rules that hold, whatever further conditions have numbers
 abbrev pub AreOpened : List AskedCond → CallTag → List Rule → Bool → List Rule → List OpenRule → Type 0

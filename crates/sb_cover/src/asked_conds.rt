@@ -9,7 +9,7 @@ use crate::positions::Cells;
 use sb_rule::Cond;
 
 /// A condition of a rule, which is asked of the arguments of a call or of these with the access cut.
-pub struct AskedCond {
+pub(crate) struct AskedCond {
     /// The condition.
     pub cond: Cond,
     /// Whether the second argument, the access, is cut to the bits that only read.
@@ -23,7 +23,7 @@ impl Drop for AskedCond {
 }
 
 /// Conditions, numbered from 0, with the cells that strings have to match.
-pub struct CondTable {
+pub(crate) struct CondTable {
     /// The conditions.
     pub conds: Vec<AskedCond>,
     /// For each condition the cells, none if it is one on a number.

@@ -8,7 +8,7 @@ use std::alloc::Global;
 
 /// A comparison: those bits of a number that a mask has, as a number, with a bound.
 #[derive(Clone, Copy)]
-pub struct Comparison {
+pub(crate) struct Comparison {
     /// The mask.
     pub mask: u64,
     /// The bound.
@@ -17,7 +17,7 @@ pub struct Comparison {
 
 /// A machine that reads numbers bit by bit, the highest first.
 #[derive(Drop)]
-pub struct BitMachine {
+pub(crate) struct BitMachine {
     /// With what the numbers are compared.
     pub comparisons: Vec<Comparison>,
     /// How many bits a number has.

@@ -7,13 +7,13 @@ use sb_explore::{Found, Machine, explore};
 use std::alloc::Global;
 
 /// The most states of one parameter.
-pub const MOST_STATES: usize = 200_000;
+pub(crate) const MAX_STATES: usize = 200_000;
 
 /// The most choices of values for the calls of one tag.
-pub const MOST_CHOICES: usize = 1_000_000;
+pub(crate) const MAX_CHOICES: usize = 1_000_000;
 
 /// The most states and choices of one command.
-pub const MOST_IN_COMMAND: usize = 2_000_000;
+pub(crate) const MAX_IN_COMMAND: usize = 2_000_000;
 
 /// What is left of a budget.
 #[derive(Drop)]
@@ -37,9 +37,9 @@ impl Budget {
         ensures exceeded { result.is_exceeded ≡ false }
     {
         Budget {
-            states: MOST_STATES,
-            choices: MOST_CHOICES,
-            command: MOST_IN_COMMAND,
+            states: MAX_STATES,
+            choices: MAX_CHOICES,
+            command: MAX_IN_COMMAND,
             is_exceeded: false,
         }
     }
@@ -51,18 +51,18 @@ impl Budget {
         ensures command { self.new.command ≡ self.old.command }
         ensures exceeded { self.new.is_exceeded ≡ self.old.is_exceeded }
     {
-        self.choices = MOST_CHOICES;
+        self.choices = MAX_CHOICES;
     }
 
     /// How many states may be found now.
-    pub fn states_left(&self) -> usize
+    pub(crate) fn states_left(&self) -> usize
         ensures { result ≡ min self.now.states self.now.command }
     {
         self.states.min(self.command)
     }
 
     /// Takes states that were found.
-    pub fn take_states(&mut self, count: usize)
+    pub(crate) fn take_states(&mut self, count: usize)
         requires { count ≤ self.old.command }
         ensures states { self.new.states ≡ self.old.states }
         ensures choices { self.new.choices ≡ self.old.choices }
@@ -73,7 +73,7 @@ impl Budget {
     }
 
     /// Takes choices. False exactly if fewer are left, for the tag or for the command; then the budget is exceeded.
-    pub fn take_choices(&mut self, count: usize) -> bool
+    pub(crate) fn take_choices(&mut self, count: usize) -> bool
         ensures taken { result ≡ true → (self.new.choices + count ≡ self.old.choices) × (self.new.command + count ≡ self.old.command) × (self.new.is_exceeded ≡ self.old.is_exceeded) }
         ensures refused { result ≡ false → (self.old.choices < count) ⊎ (self.old.command < count) }
         ensures exceeded { result ≡ false → self.new.is_exceeded ≡ true }
@@ -88,7 +88,7 @@ impl Budget {
     }
 
     /// Notes that more was needed than was left.
-    pub fn exceed(&mut self)
+    pub(crate) fn exceed(&mut self)
         ensures { self.new.is_exceeded ≡ true }
     {
         self.is_exceeded = true;
@@ -99,7 +99,7 @@ impl Budget {
 ///
 /// # Errors
 /// `NoMemory` if there was none for the states.
-pub fn explore_within<M: Machine>(
+pub(crate) fn explore_within<M: Machine>(
     alloc: Global,
     machine: &M,
     budget: &mut Budget,

@@ -77,7 +77,7 @@ fn join_all(
 ///
 /// # Errors
 /// `NoMemory` if there was none for the lists.
-pub fn calls_from(
+pub(crate) fn calls_from(
     alloc: Global,
     table: &CondTable,
     kinds: &[ParamKind],

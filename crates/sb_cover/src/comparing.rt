@@ -106,7 +106,7 @@ fn put_needed(
 ///
 /// # Errors
 /// `NoMemory` if there was none for it.
-pub fn comparisons_for(
+pub(crate) fn comparisons_for(
     alloc: Global,
     conds: &[AskedCond],
     needed: &[bool],

@@ -64,7 +64,7 @@ fn marks_for(
 ///
 /// # Errors
 /// `NoMemory` if there was none for the label.
-pub fn label_of(
+pub(crate) fn label_of(
     alloc: Global,
     questions: &[OpenQuestion],
     truths: &[bool],

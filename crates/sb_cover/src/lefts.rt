@@ -11,11 +11,11 @@ use sb_explore::State;
 use std::alloc::Global;
 
 /// Of how many lists it is looked whether one is there again.
-pub const MOST_COMPARED: usize = 256;
+pub(crate) const MAX_COMPARED: usize = 256;
 
 /// The questions that are left after each choice.
 #[derive(Drop)]
-pub struct Lefts {
+pub(crate) struct Lefts {
     /// Lists of questions.
     pub lists: Vec<Items<OpenQuestion>>,
     /// For each choice the place of its list.
@@ -97,7 +97,7 @@ fn find(lists: &[Items<OpenQuestion>], left: &[OpenQuestion]) -> Option<usize>
     ensures there { IfSome result (λ n. left_at lists.now n ≡ left.now) }
 {
     for (place, list) in lists.iter().enumerate() {
-        if place >= MOST_COMPARED {
+        if place >= MAX_COMPARED {
             return None;
         }
         if are_same_questions(list, left) {
@@ -127,7 +127,7 @@ fn place_of(
 ///
 /// # Errors
 /// `NoMemory` if there was none for them.
-pub fn lefts_of(
+pub(crate) fn lefts_of(
     alloc: Global,
     conds: &[AskedCond],
     questions: &[OpenQuestion],

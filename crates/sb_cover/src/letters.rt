@@ -2,38 +2,39 @@
 ghost use Rattle.std.specs.Prelude.{◌≡◌, ◌==◌, true, List, IfOk, OnOk};
 ghost use Rattle.std.specs.List.{list_all, list_any};
 ghost use Rattle.sb_base.specs.Wide.{folded};
-ghost use Rattle.sb_explore.specs.Exploring.{is_letter};
-ghost use Rattle.sb_cover.specs.Letters.{are_noted, is_noted, AreKept};
+ghost use Rattle.sb_cover.specs.Letters.{are_noted, has_letter, is_noted, AreKept};
 
 use crate::positions::Cells;
 use sb_base::{NoMemory, to_ascii_uppercase};
 use sb_rule::Cell;
 use std::alloc::Global;
 
-fn is_letter(letters: &[u16], unit: u16) -> bool
-    ensures { result ≡ is_letter letters.now unit }
+// Whether one of the letters is the unit, whatever its case.
+fn has_letter(letters: &[u16], unit: u16) -> bool
+    ensures { result ≡ has_letter letters.now unit }
 {
+    let wanted = to_ascii_uppercase(unit);
     for letter in letters {
-        if *letter == unit {
+        if to_ascii_uppercase(*letter) == wanted {
             return true;
         }
     }
     false
 }
 
-/// Puts a unit, unless it is there.
-pub fn note(letters: &mut Vec<u16>, unit: u16) -> Result<(), NoMemory>
-    ensures here { OnOk result (is_letter letters.new.items unit ≡ true) }
+/// Puts a unit, unless it is there in either case.
+pub(crate) fn note(letters: &mut Vec<u16>, unit: u16) -> Result<(), NoMemory>
+    ensures here { OnOk result (has_letter letters.new.items unit ≡ true) }
     ensures kept { OnOk result (AreKept letters.old.items letters.new.items) }
 {
-    if is_letter(letters, unit) {
+    if has_letter(letters, unit) {
         return Ok(());
     }
     letters.push(unit)?;
     Ok(())
 }
 
-// Puts the folding of the literal that the next unit can meet, if there is one.
+// Puts the literal that the next unit can meet, if there is one.
 fn note_cells(letters: &mut Vec<u16>, cells: &[Cell]) -> Result<(), NoMemory>
     ensures here { OnOk result (are_noted letters.new.items cells.now ≡ true) }
     ensures kept { OnOk result (AreKept letters.old.items letters.new.items) }
@@ -44,7 +45,7 @@ fn note_cells(letters: &mut Vec<u16>, cells: &[Cell]) -> Result<(), NoMemory>
             Cell::Any => {}
             Cell::One => return Ok(()),
             Cell::Lit(unit) => {
-                note(letters, to_ascii_uppercase(unit))?;
+                note(letters, unit)?;
                 return Ok(());
             }
         }
@@ -53,7 +54,7 @@ fn note_cells(letters: &mut Vec<u16>, cells: &[Cell]) -> Result<(), NoMemory>
     Ok(())
 }
 
-// Puts the folding of the literal that the next unit can meet at a position.
+// Puts the literal that the next unit can meet at a position.
 fn note_position(letters: &mut Vec<u16>, patterns: &[Cells], position: u32) -> Result<(), NoMemory>
     ensures here { OnOk result (is_noted patterns.now letters.new.items position ≡ true) }
     ensures kept { OnOk result (AreKept letters.old.items letters.new.items) }
@@ -67,11 +68,11 @@ fn note_position(letters: &mut Vec<u16>, patterns: &[Cells], position: u32) -> R
     Ok(())
 }
 
-/// Puts the foldings of the literals that the next unit can meet at the positions.
+/// Puts the literals that the next unit can meet at the positions, as the patterns name them.
 ///
 /// # Errors
 /// `NoMemory` if there was none for the units.
-pub fn note_positions(
+pub(crate) fn note_positions(
     letters: &mut Vec<u16>,
     patterns: &[Cells],
     positions: &[u32],

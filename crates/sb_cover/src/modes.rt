@@ -4,16 +4,16 @@ ghost use Rattle.sb_cover.specs.Modes.{mode_after, mode_inside, is_accepting};
 ghost use Rattle.sb_base.specs.Names.{is_ordinary};
 
 /// The mode of no name.
-pub const DEAD: u32 = 0;
+pub(crate) const DEAD: u32 = 0;
 
 /// The mode before the first unit of a name.
-pub const START: u32 = 1;
+pub(crate) const START: u32 = 1;
 
 /// The mode of a string that need not be a name.
-pub const ANY: u32 = 5;
+pub(crate) const ANY: u32 = 5;
 
 /// Whether a unit may be in a component of a name.
-pub fn is_ordinary(unit: u16) -> bool
+pub(crate) fn is_ordinary(unit: u16) -> bool
     ensures { result ≡ is_ordinary unit }
 {
     unit >= 32 && unit != 92 && unit != 47 && unit != 42
@@ -26,7 +26,7 @@ fn mode_inside(unit: u16) -> u32
 }
 
 /// The mode after a unit more.
-pub fn mode_after(mode: u32, unit: u16) -> u32
+pub(crate) fn mode_after(mode: u32, unit: u16) -> u32
     ensures { result ≡ mode_after mode unit }
 {
     if mode == ANY {
@@ -43,7 +43,7 @@ pub fn mode_after(mode: u32, unit: u16) -> u32
 }
 
 /// Whether a string with this mode is accepted.
-pub fn is_accepting(mode: u32) -> bool
+pub(crate) fn is_accepting(mode: u32) -> bool
     ensures { result ≡ is_accepting mode }
 {
     mode == 3 || mode == ANY

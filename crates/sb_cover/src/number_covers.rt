@@ -65,7 +65,7 @@ fn numbers_of(alloc: Global, words: &[Wide], width: u32) -> Result<Vec<u64>, NoM
 ///
 /// # Errors
 /// `NoMemory` if there was none for the numbers.
-pub fn number_values(
+pub(crate) fn number_values(
     alloc: Global,
     comparisons: Vec<Comparison>,
     width: u32,

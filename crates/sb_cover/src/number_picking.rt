@@ -24,7 +24,7 @@ use std::alloc::Global;
 
 /// Numbers, each with a label that no other one has.
 #[derive(Drop)]
-pub struct PickedNumbers {
+pub(crate) struct PickedNumbers {
     /// The numbers.
     pub values: Vec<u64>,
     /// Their labels, in the same order.
@@ -146,7 +146,7 @@ fn pick_all(
 ///
 /// # Errors
 /// `NoMemory` if there was none for the numbers.
-pub fn number_choices(
+pub(crate) fn number_choices(
     alloc: Global,
     table: &CondTable,
     questions: &[OpenQuestion],

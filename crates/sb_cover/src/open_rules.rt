@@ -3,10 +3,10 @@
 use sb_base::Items;
 
 /// The numbers of conditions.
-pub type CondNumbers = Items<u32>;
+pub(crate) type CondNumbers = Items<u32>;
 
 /// A rule that may still hold: all its conditions on the parameters that were read do.
-pub struct OpenRule {
+pub(crate) struct OpenRule {
     /// The place of the rule in its list, from 0.
     pub place: usize,
     /// The numbers of its conditions on the parameter that is read.
@@ -26,7 +26,7 @@ impl Drop for OpenRule {
 }
 
 /// The rules of one list that may still hold, in order. Asked is which are the first of them that hold.
-pub struct OpenQuestion {
+pub(crate) struct OpenQuestion {
     /// How many of the rules that hold are asked for.
     pub depth: usize,
     /// The rules.

@@ -6,6 +6,7 @@ ghost use Rattle.sb_rule.specs.Verdicts.{cond_holds};
 ghost use Rattle.sb_cover.specs.Calls.{met_from};
 ghost use Rattle.sb_cover.specs.AskedConds.{cond_at};
 ghost use Rattle.sb_cover.specs.Opening.{asked_of, AreMore, AreOpened, AllOpened, AreUnread, AllUnread, IsRulePut};
+ghost use Rattle.sb_cover.specs.PlainQuestions.{is_plain_asked, is_plain_cond, is_plain_question, is_plain_rule};
 ghost use Rattle.sb_cover.specs.declared.asked_conds.AskedCond.{AskedCond};
 
 use crate::asked_conds::AskedCond;
@@ -17,7 +18,7 @@ use sb_rule::{Cell, Cond, Rule, Test};
 use std::alloc::Global;
 
 /// The most conditions.
-pub const MOST_CONDS: usize = 0x10_0000;
+pub(crate) const MAX_CONDS: usize = 0x10_0000;
 
 #[tactic(auto, using(crate::proofs::OpeningLemmas::equal_numbers))]
 fn are_same_numbers(a: &[u64], b: &[u64]) -> bool
@@ -93,20 +94,21 @@ fn find(conds: &[AskedCond], cond: &Cond, is_cut: bool) -> Option<usize>
 }
 
 // The number of a condition, which has one afterwards. None if there are too many conditions.
-#[tactic(auto, using(crate::proofs::OpeningLemmas::more_none, crate::proofs::OpeningLemmas::more_one, crate::proofs::OpeningLemmas::met_found, crate::proofs::OpeningLemmas::met_put))]
+#[tactic(auto, using(crate::proofs::OpeningLemmas::more_none, crate::proofs::OpeningLemmas::more_one, crate::proofs::OpeningLemmas::met_found, crate::proofs::OpeningLemmas::met_put, crate::proofs::PlainLemmas::plain_put))]
 fn number_of(conds: &mut Vec<AskedCond>, cond: &Cond, is_cut: bool) -> Result<Option<u32>, NoMemory>
     ensures more { IfOk result (λ number. AreMore conds.old.items conds.new.items) }
     ensures met { IfOk result (λ number. IfSome number (λ n. (more : List AskedCond) (args : List Arg)
         → met_from (conds.new.items ++ more) 0 args n ≡ cond_holds cond.now (asked_of is_cut args))) }
+    ensures plain { OnOk result (is_plain_cond cond.now ≡ true → list_all is_plain_asked conds.old.items ≡ true → list_all is_plain_asked conds.new.items ≡ true) }
 {
     if let Some(number) = find(conds, cond, is_cut) {
-        if number < MOST_CONDS {
+        if number < MAX_CONDS {
             return Ok(Some(number as u32));
         }
         return Ok(None);
     }
     let number = conds.len();
-    if number >= MOST_CONDS {
+    if number >= MAX_CONDS {
         return Ok(None);
     }
     conds.push(AskedCond {
@@ -127,6 +129,7 @@ fn numbers_of(
     ensures more { IfOk result (λ numbers. AreMore conds.old.items conds.new.items) }
     ensures met { IfOk result (λ numbers. IfSome numbers (λ numbers. (more : List AskedCond) (args : List Arg)
         → list_all (met_from (conds.new.items ++ more) 0 args) numbers.items ≡ list_all (λ c. cond_holds c (asked_of is_cut args)) rule_conds.now)) }
+    ensures plain { OnOk result (list_all is_plain_cond rule_conds.now ≡ true → list_all is_plain_asked conds.old.items ≡ true → list_all is_plain_asked conds.new.items ≡ true) }
 {
     let mut numbers = Vec::new(alloc);
     for cond in rule_conds {
@@ -157,6 +160,7 @@ fn put_rule(
 ) -> Result<bool, NoMemory>
     ensures more { OnOk result (AreMore conds.old.items conds.new.items) }
     ensures put { IfOk result (λ done. done ≡ true → IsRulePut conds.new.items asking.tag asking.is_cut rule.now place opened.old opened.new) }
+    ensures plain { OnOk result (is_plain_rule rule.now ≡ true → list_all is_plain_asked conds.old.items ≡ true → list_all is_plain_asked conds.new.items ≡ true) }
 {
     if !rule.is_for(asking.tag) {
         return Ok(true);
@@ -184,6 +188,7 @@ fn rules_for(
     ensures more { OnOk result (AreMore conds.old.items conds.new.items) }
     ensures rules { IfOk result (λ opened. IfSome opened (AreOpened conds.new.items tag rules.now is_cut rules.now)) }
     ensures unread { IfOk result (λ opened. IfSome opened AreUnread) }
+    ensures plain { OnOk result (list_all is_plain_rule rules.now ≡ true → list_all is_plain_asked conds.old.items ≡ true → list_all is_plain_asked conds.new.items ≡ true) }
 {
     let mut opened = Items::empty(alloc);
     for (place, rule) in rules.iter().enumerate() {
@@ -200,7 +205,7 @@ fn rules_for(
 ///
 /// # Errors
 /// `NoMemory` if there was none for them.
-pub fn open_questions(
+pub(crate) fn open_questions(
     alloc: Global,
     conds: &mut Vec<AskedCond>,
     tag: CallTag,
@@ -208,6 +213,7 @@ pub fn open_questions(
 ) -> Result<Option<Items<OpenQuestion>>, NoMemory>
     ensures rules { IfOk result (λ opened. IfSome opened (AllOpened conds.new.items tag questions.now)) }
     ensures unread { IfOk result (λ opened. IfSome opened AllUnread) }
+    ensures plain { OnOk result (list_all is_plain_question questions.now ≡ true → list_all is_plain_asked conds.old.items ≡ true → list_all is_plain_asked conds.new.items ≡ true) }
 {
     let mut opened = Items::empty(alloc);
     for question in questions {

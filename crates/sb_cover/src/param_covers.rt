@@ -20,7 +20,7 @@ use std::alloc::Global;
 
 /// Values of a parameter, each with a label that no other one has.
 #[derive(Drop)]
-pub struct Choices {
+pub(crate) struct Choices {
     /// The values.
     pub values: Vec<Arg>,
     /// Their labels, in the same order.
@@ -94,7 +94,7 @@ fn number_args(
 /// # Errors
 /// `NoMemory` if there was none for the values.
 #[tactic(auto, using(crate::proofs::ParamLemmas::texts_of_kind, crate::proofs::ParamLemmas::names_of_kind, crate::proofs::ParamLemmas::nums_of_kind, crate::proofs::ParamLemmas::handles_of_kind))]
-pub fn choices_for(
+pub(crate) fn choices_for(
     alloc: Global,
     table: &CondTable,
     kind: ParamKind,

@@ -26,7 +26,7 @@ use std::alloc::Global;
 
 /// Strings, each with a label that no other one has.
 #[derive(Drop)]
-pub struct Picked {
+pub(crate) struct Picked {
     /// The strings.
     pub values: Vec<Wide>,
     /// Their labels, in the same order.
@@ -79,7 +79,7 @@ fn matched_patterns(
 }
 
 /// The opposite, if a condition is negated.
-pub fn by_negation(negated: bool, holds: bool) -> bool
+pub(crate) fn by_negation(negated: bool, holds: bool) -> bool
     ensures { result ≡ by_negation negated holds }
 {
     if negated { !holds } else { holds }
@@ -102,7 +102,7 @@ fn truths_of(alloc: Global, table: &CondTable, positions: &[u32]) -> Result<Vec<
 ///
 /// # Errors
 /// `NoMemory` if there was none for it.
-pub fn note_label(labels: &mut IndexSet<State>, label: State) -> Result<bool, NoMemory>
+pub(crate) fn note_label(labels: &mut IndexSet<State>, label: State) -> Result<bool, NoMemory>
     ensures { IfOk result (λ is_new. IsNoted is_new label labels.old.keys labels.new.keys) }
 {
     let (_, is_new) = labels.insert_full(label)?;
@@ -143,7 +143,7 @@ fn pick(
 ///
 /// # Errors
 /// `NoMemory` if there was none for the words.
-pub fn pick_all(
+pub(crate) fn pick_all(
     alloc: Global,
     table: &CondTable,
     questions: &[OpenQuestion],

@@ -11,13 +11,13 @@ use sb_rule::Cell;
 use std::alloc::Global;
 
 /// The cells of a pattern.
-pub type Cells = Items<Cell>;
+pub(crate) type Cells = Items<Cell>;
 
 /// The most patterns of a machine.
-pub const MOST_PATTERNS: usize = 0x10_0000;
+pub(crate) const MAX_PATTERNS: usize = 0x10_0000;
 
 /// Puts a position, unless it is the last one.
-pub fn put(positions: &mut Vec<u32>, position: u32) -> Result<(), NoMemory>
+pub(crate) fn put(positions: &mut Vec<u32>, position: u32) -> Result<(), NoMemory>
     ensures { OnOk result ((test : ℕ → Bool) → list_any test positions.new.items ≡ (list_any test positions.old.items || test position)) }
 {
     if let Some(last) = positions.last() {
@@ -99,7 +99,7 @@ fn step_position(
 ///
 /// # Errors
 /// `NoMemory` if there was none for the positions.
-pub fn step_positions(
+pub(crate) fn step_positions(
     alloc: Global,
     patterns: &[Cells],
     positions: &[u32],

@@ -11,7 +11,7 @@ use std::alloc::Global;
 
 /// What is known for sure of conditions, by their numbers.
 #[derive(Drop)]
-pub struct Signs {
+pub(crate) struct Signs {
     /// Those that fail.
     pub fails: Vec<bool>,
     /// Those that hold.
@@ -20,7 +20,7 @@ pub struct Signs {
 
 impl Signs {
     /// Nothing is known for sure. Does not allocate.
-    pub fn unknown(alloc: Global) -> Signs
+    pub(crate) fn unknown(alloc: Global) -> Signs
         ensures fails { result.fails.items ≡ [] }
         ensures holds { result.holds.items ≡ [] }
     {
@@ -67,7 +67,7 @@ fn left_after(left: usize, conds: &[u32], later: &[u32]) -> usize
 }
 
 /// Whether that many of the lists of conditions are implied by these conditions.
-pub fn is_covered(depth: usize, decided: &[CondNumbers], later: &[u32]) -> bool
+pub(crate) fn is_covered(depth: usize, decided: &[CondNumbers], later: &[u32]) -> bool
     ensures { result ≡ true → IsCovered depth decided.now later.now }
 {
     let mut left = depth;
@@ -81,7 +81,7 @@ pub fn is_covered(depth: usize, decided: &[CondNumbers], later: &[u32]) -> bool
 }
 
 /// Whether the flag of a number is set.
-pub fn is_set(flags: &[bool], number: usize) -> bool
+pub(crate) fn is_set(flags: &[bool], number: usize) -> bool
     ensures { result ≡ slice_index_or flags.now number false }
 {
     match flags.get(number) {
@@ -104,7 +104,7 @@ fn first_failing(signs: &Signs, conds: &[u32]) -> Option<u32>
 }
 
 /// Whether the flags of all these numbers are set.
-pub fn all_set(flags: &[bool], numbers: &[u32]) -> bool
+pub(crate) fn all_set(flags: &[bool], numbers: &[u32]) -> bool
     ensures { result ≡ list_all (λ n. slice_index_or flags.now n false) numbers.now }
 {
     for number in numbers {
@@ -116,7 +116,7 @@ pub fn all_set(flags: &[bool], numbers: &[u32]) -> bool
 }
 
 /// Sets the flag of a condition, if it has one.
-pub fn need(needed: &mut Vec<bool>, cond: u32)
+pub(crate) fn need(needed: &mut Vec<bool>, cond: u32)
     ensures stay { StayNeeded needed.old.items needed.new.items }
     ensures here { is_needed needed.new.items cond ≡ true }
 {
@@ -139,7 +139,7 @@ fn need_all(needed: &mut Vec<bool>, conds: &[u32])
 ///
 /// # Errors
 /// `NoMemory` if there was none for it.
-pub fn copy_of(alloc: Global, numbers: &[u32]) -> Result<CondNumbers, NoMemory>
+pub(crate) fn copy_of(alloc: Global, numbers: &[u32]) -> Result<CondNumbers, NoMemory>
     ensures { IfOk result (λ copy. copy ≡ numbers.now) }
 {
     let copy = Vec::from_slice(alloc, numbers)?;
@@ -201,7 +201,7 @@ fn note_rules(
 ///
 /// # Errors
 /// `NoMemory` if there was none for the list.
-pub fn needed_conds(
+pub(crate) fn needed_conds(
     alloc: Global,
     questions: &[OpenQuestion],
     signs: &Signs,

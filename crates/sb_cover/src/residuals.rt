@@ -66,7 +66,7 @@ fn put_by(
 ///
 /// # Errors
 /// `NoMemory` if there was none for the rule.
-pub fn open_rule(
+pub(crate) fn open_rule(
     alloc: Global,
     conds: &[AskedCond],
     place: usize,
@@ -138,7 +138,7 @@ fn rest_after(label: &[u32], count: usize) -> &[u32]
 ///
 /// # Errors
 /// `NoMemory` if there was none for the rules.
-pub fn questions_left(
+pub(crate) fn questions_left(
     alloc: Global,
     conds: &[AskedCond],
     questions: &[OpenQuestion],

@@ -10,7 +10,7 @@ use sb_rule::Cell;
 use std::alloc::Global;
 
 /// Whether a script can have a unit by itself: no control unit, no `"` and no half of a pair.
-pub fn is_plain_unit(unit: u16) -> bool
+pub(crate) fn is_plain_unit(unit: u16) -> bool
     ensures { result ≡ is_plain_unit unit }
 {
     unit >= 32 && unit != 34 && !(is_high_surrogate(unit) || is_low_surrogate(unit))
@@ -85,7 +85,7 @@ fn begins_after(follows: bool, cell: Cell) -> bool
 
 /// Whether a script can have the literals of a pattern.
 #[tactic(auto, using(crate::proofs::ShownLemmas::plain_step))]
-pub fn are_plain(cells: &[Cell]) -> bool
+pub(crate) fn are_plain(cells: &[Cell]) -> bool
     ensures { result ≡ are_plain false cells.now }
 {
     let mut follows = false;
@@ -103,7 +103,11 @@ pub fn are_plain(cells: &[Cell]) -> bool
 ///
 /// # Errors
 /// `NoMemory` if there was none for the string.
-pub fn text_in_place(alloc: Global, table: &CondTable, units: &[u16]) -> Result<Wide, NoMemory>
+pub(crate) fn text_in_place(
+    alloc: Global,
+    table: &CondTable,
+    units: &[u16],
+) -> Result<Wide, NoMemory>
     ensures in_place { IfOk result (IsInPlace table.now.conds.items units.now) }
     ensures shown { IfOk result (λ text. table.now.is_plain ≡ true → is_shown text ≡ true) }
 {

@@ -13,7 +13,7 @@ use sb_rule::{Cell, star_matches_all};
 use std::alloc::Global;
 
 /// Whether a flag is set, or there is none.
-pub fn is_needed(flags: &[bool], number: usize) -> bool
+pub(crate) fn is_needed(flags: &[bool], number: usize) -> bool
     ensures { result ≡ is_needed flags.now number }
 {
     match flags.get(number) {
@@ -23,7 +23,7 @@ pub fn is_needed(flags: &[bool], number: usize) -> bool
 }
 
 /// Sets the flag of a number, if it has one.
-pub fn set(flags: &mut Vec<bool>, number: u32)
+pub(crate) fn set(flags: &mut Vec<bool>, number: u32)
     ensures long { length flags.new.items ≡ length flags.old.items }
     ensures only { (n : ℕ) → is_true flags.new.items n ≡ true → (is_true flags.old.items n ≡ true) ⊎ (number ≡ n) }
     ensures all { (n : ℕ) → is_true flags.new.items n ≡ (is_true flags.old.items n || ((number == n) && nat_lt n (length flags.old.items))) }
@@ -107,7 +107,11 @@ fn does_hold(asked: &AskedCond, is_live: bool, is_sure: bool) -> bool
 ///
 /// # Errors
 /// `NoMemory` if there was none for it.
-pub fn signs_of(alloc: Global, table: &CondTable, positions: &[u32]) -> Result<Signs, NoMemory>
+pub(crate) fn signs_of(
+    alloc: Global,
+    table: &CondTable,
+    positions: &[u32],
+) -> Result<Signs, NoMemory>
     ensures { IfOk result (λ signs. (later : List ℕ) → AreSure signs.fails.items signs.holds.items (told table.now.conds.items table.now.patterns.items positions.now later)) }
 {
     let live = live_patterns(alloc, positions, table.conds.len())?;

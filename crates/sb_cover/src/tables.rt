@@ -5,12 +5,13 @@ ghost use Rattle.sb_base.specs.Names.{is_ordinary};
 ghost use Rattle.sb_rule.specs.declared.cells.Cell.TheVariants.{Lit};
 ghost use Rattle.sb_cover.specs.AskedConds.{cells_of_cond, cells_of_test};
 ghost use Rattle.sb_cover.specs.Letters.{is_apart, IsStandIn};
+ghost use Rattle.sb_cover.specs.PlainQuestions.{is_plain_asked};
 ghost use Rattle.sb_cover.specs.Positions.{cells_at, AreShort};
 ghost use Rattle.sb_cover.specs.Shown.{are_plain, is_plain_unit};
 
 use crate::asked_conds::{AskedCond, CondTable};
 use crate::modes::is_ordinary;
-use crate::opening::MOST_CONDS;
+use crate::opening::MAX_CONDS;
 use crate::positions::Cells;
 use crate::shown::{are_plain, is_plain_unit};
 use sb_base::{Items, NoMemory, to_ascii_uppercase};
@@ -124,7 +125,7 @@ fn is_stand_in(patterns: &[Cells], unit: u16) -> bool
 
 // Whether a script can have all that the patterns name.
 fn all_plain(patterns: &[Cells]) -> bool
-    ensures { result ≡ true → (k : ℕ) → are_plain false (cells_at patterns.now k) ≡ true }
+    ensures { result ≡ list_all (are_plain false) patterns.now }
 {
     for cells in patterns {
         if !are_plain(cells) {
@@ -155,10 +156,12 @@ fn stand_in(patterns: &[Cells]) -> Option<u16>
 ///
 /// # Errors
 /// `NoMemory` if there was none for the table.
-pub fn table_of(alloc: Global, conds: Vec<AskedCond>) -> Result<Option<CondTable>, NoMemory>
-    ensures { IfOk result (λ table. IfSome table (λ table. table.conds.items ≡ conds.items)) }
+#[tactic(auto, using(crate::proofs::PlainLemmas::plain_at))]
+pub(crate) fn table_of(alloc: Global, conds: Vec<AskedCond>) -> Result<Option<CondTable>, NoMemory>
+    ensures conds { IfOk result (λ table. IfSome table (λ table. table.conds.items ≡ conds.items)) }
+    ensures plain { IfOk result (λ table. IfSome table (λ table. list_all is_plain_asked conds.items ≡ true → table.is_plain ≡ true)) }
 {
-    if conds.len() > MOST_CONDS {
+    if conds.len() > MAX_CONDS {
         return Ok(None);
     }
     let patterns = patterns_of(alloc, &conds)?;

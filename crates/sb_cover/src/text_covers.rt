@@ -17,7 +17,7 @@ use std::alloc::Global;
 ///
 /// # Errors
 /// `NoMemory` if there was none for the strings.
-pub fn text_choices(
+pub(crate) fn text_choices(
     alloc: Global,
     table: &CondTable,
     questions: &[OpenQuestion],

@@ -23,7 +23,7 @@ use sb_rule::Test;
 use std::alloc::Global;
 
 /// A machine that reads strings. Its states tell which rules hold, as far as that can still decide, and how far the string is a name.
-pub struct TextMachine<'a> {
+pub(crate) struct TextMachine<'a> {
     /// The conditions.
     pub table: &'a CondTable,
     /// The rules that may hold.

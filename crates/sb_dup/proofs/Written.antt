@@ -1,5 +1,5 @@
 -- Moves are read back from what is written of them.
-use Rattle.std.proofs.Common.{◌≡◌, ◌∙◌, ℕ, suc, ◌+◌, ◌^◌, ◌≤◌, ◌<◌, nat_lt, nat_le, Bool, true, false, cond, List, [], ◌∷◌, ◌++◌, None, Some, Option, Ok, Result, length, map, ap, refl, sym, arith}
+use Rattle.std.proofs.Common.{◌≡◌, ◌∙◌, ℕ, suc, ◌+◌, ◌^◌, ◌≤◌, ◌<◌, nat_lt, nat_le, Bool, true, false, not, cond, List, [], ◌∷◌, ◌++◌, None, Some, Option, Ok, Result, length, map, ap, refl, sym, arith}
 use Rattle.std.specs.Fmt.{decimal}
 use Rattle.std.specs.List.{flat_map, list_all}
 use Rattle.std.specs.Prelude.{codes, ◌==◌}
@@ -9,10 +9,10 @@ use Rattle.std.proofs.lemmas.Bool.Decides.{nat_tests}
 use Rattle.std.proofs.lemmas.List.{append_assoc, append-nil, length_push}
 use Rattle.std.proofs.lemmas.Str.{IsUtf8-from_ascii, is_utf8-from_IsUtf8}
 use Rattle.std.proofs.lemmas.Str.Ascii.{IsAscii-cons, IsAscii-nil}
-use Rattle.sb_dup.specs.Lines.{MoveWords, access_at, has_quote, is_between, is_there, line_of, move_by, number_at, operands, with_move, word_at}
+use Rattle.sb_dup.specs.Lines.{MoveWords, WordAt, access_at, has_quote, is_between, is_there, line_of, move_by, number_at, operand_at, operands, with_move}
 use Rattle.sb_dup.specs.MoveLaws.{WrittenMovesAreRead}
 use Rattle.sb_dup.specs.MovePrinting.{is_of_values, move_words, version_words, written}
-use Rattle.sb_dup.specs.MoveTexts.{by_characters, grammar}
+use Rattle.sb_dup.specs.MoveTexts.{grammar}
 use Rattle.sb_dup.specs.declared.faults.MoveKind.{MoveKind}
 use Rattle.sb_dup.specs.declared.faults.MoveKind.TheVariants.{TooMany, UnknownWord}
 use Rattle.sb_dup.specs.declared.moves.Move.{Move}
@@ -22,11 +22,10 @@ use Rattle.sb_text.specs.Numbers.{is_decimal_digit, number_of}
 use Rattle.sb_text.specs.PlainLines as plain
 use Rattle.sb_text.specs.PlainLines.{PlainLinesAreRead, PlainWordsAreRead, is_plain_byte, words_line, words_text}
 use Rattle.sb_text.specs.Readings.{on_line, read_by, read_lines}
-use Rattle.sb_text.specs.Spots.{by_words, fails_left}
-use Rattle.sb_text.specs.Steps.{◌>>=◌, words_end}
-use Rattle.sb_text.specs.Tokens.{Lexeme, Word}
-use Rattle.sb_text.specs.WordVersions.{version_in_words}
-use Rattle.sb_text.specs.Words.{is_some_word}
+use Rattle.sb_text.specs.Columns.{fails_at}
+use Rattle.sb_text.specs.Steps.{◌>>=◌, Read, end_at, unless_fails, version_at}
+use Rattle.sb_text.specs.TokenLaws.{is_some_word, placed, written_line}
+use Rattle.sb_text.specs.Tokens.{Lexeme, Lexemes, Word, by_tokens, place_due}
 use Rattle.sb_text.specs.declared.refusals.TokenFault.{TokenFault}
 use Rattle.sb_text.specs.declared.refusals.WordFault.TheVariants.{Broken, Extra, NoVersion, Quoted}
 
@@ -98,41 +97,58 @@ decimal_is law n h =
 
 -- ---- the words of a line
 
-word_back : (w : List ℕ) (rest : List (List ℕ)) → IsDigits w → word_at (w ∷ rest) ≡ Ok (w, rest)
-word_back w rest d =
-    ap {B = Result (List ℕ × List (List ℕ)) (TokenFault MoveKind)}
-    (λ t. cond t (fails_left (length (w ∷ rest)) (UnknownWord Quoted)) (cond (is_utf8 w) (Ok (w, rest)) (fails_left (length (w ∷ rest)) (UnknownWord Broken)))) d.unquoted
-    ∙ ap {B = Result (List ℕ × List (List ℕ)) (TokenFault MoveKind)} (λ t. cond t (Ok (w, rest)) (fails_left (length (w ∷ rest)) (UnknownWord Broken))) d.text
+-- the words of a line, from one on
+abbrev words_at : List (List ℕ) → Lexemes
+words_at words = placed (map Word words)
+
+-- the first of these words
+abbrev first_at : List ℕ → List (List ℕ) → WordAt
+first_at w words = record { place = place_due (words_at (w ∷ words)); bytes = w }
 
 -- a word, and those after it
 abbrev At : Type 0
-At = List ℕ × List (List ℕ)
+At = WordAt × Lexemes
 
-abbrev last : List ℕ → List ℕ → List ℕ → At → Result MoveWords (TokenFault MoveKind)
-last a b c d = words_end (UnknownWord Extra) d.1 >>= λ end. Ok (record { from = a; handle = b; to = c; access = d.0 })
+abbrev unless_quoted : List ℕ → List (List ℕ) → Bool → Bool → Result At (TokenFault MoveKind)
+unless_quoted w words quoted text =
+    unless_fails (words_at (w ∷ words)) (UnknownWord Quoted) (not quoted) >>= λ unquoted. unless_fails (words_at (w ∷ words)) (UnknownWord Broken) text
+    >>= λ text. Ok (first_at w words, words_at words)
+
+word_back : (w : List ℕ) (words : List (List ℕ)) → IsDigits w → operand_at (words_at (w ∷ words)) ≡ Ok (first_at w words, words_at words)
+word_back w words d = ap (λ t. unless_quoted w words t (is_utf8 w)) d.unquoted ∙ ap (unless_quoted w words false) d.text
+
+abbrev last : WordAt → WordAt → WordAt → At → Result MoveWords (TokenFault MoveKind)
+last a b c d = end_at (UnknownWord Extra) (UnknownWord Broken) d.1 >>= λ end. Ok (record { from = a; handle = b; to = c; access = d.0 })
+
+-- the words of a move
+abbrev found : List ℕ → List ℕ → List ℕ → List ℕ → MoveWords
+found a b c d = record { from = first_at a (b ∷ c ∷ d ∷ []); handle = first_at b (c ∷ d ∷ []); to = first_at c (d ∷ []); access = first_at d [] }
 
 operands_back : (a b c d : List ℕ) → IsDigits a → IsDigits b → IsDigits c → IsDigits d
-    → operands (codes "move" ∷ a ∷ b ∷ c ∷ d ∷ []) ≡ Ok (record { from = a; handle = b; to = c; access = d })
+    → operands (words_at (codes "move" ∷ a ∷ b ∷ c ∷ d ∷ [])) ≡ Ok (found a b c d)
 operands_back a b c d p q r s =
-    ap (λ (read : Result At (TokenFault MoveKind)). read >>= λ x. word_at x.1 >>= λ y. word_at y.1 >>= λ z. word_at z.1 >>= λ w. last x.0 y.0 z.0 w)
+    ap (λ (read : Result At (TokenFault MoveKind)). read >>= λ x. operand_at x.1 >>= λ y. operand_at y.1 >>= λ z. operand_at z.1 >>= λ w. last x.0 y.0 z.0 w)
     (word_back a (b ∷ c ∷ d ∷ []) p)
-    ∙ ap (λ (read : Result At (TokenFault MoveKind)). read >>= λ y. word_at y.1 >>= λ z. word_at z.1 >>= λ w. last a y.0 z.0 w) (word_back b (c ∷ d ∷ []) q)
-    ∙ ap (λ (read : Result At (TokenFault MoveKind)). read >>= λ z. word_at z.1 >>= λ w. last a b z.0 w) (word_back c (d ∷ []) r)
-    ∙ ap (λ (read : Result At (TokenFault MoveKind)). read >>= λ w. last a b c w) (word_back d [] s)
+    ∙ ap (λ (read : Result At (TokenFault MoveKind)). read >>= λ y. operand_at y.1 >>= λ z. operand_at z.1 >>= λ w. last (first_at a (b ∷ c ∷ d ∷ [])) y.0 z.0 w)
+    (word_back b (c ∷ d ∷ []) q)
+    ∙ ap (λ (read : Result At (TokenFault MoveKind)). read >>= λ z. operand_at z.1 >>= λ w. last (first_at a (b ∷ c ∷ d ∷ [])) (first_at b (c ∷ d ∷ [])) z.0 w)
+    (word_back c (d ∷ []) r)
+    ∙ ap (λ (read : Result At (TokenFault MoveKind)). read >>= λ w. last (first_at a (b ∷ c ∷ d ∷ [])) (first_at b (c ∷ d ∷ [])) (first_at c (d ∷ [])) w)
+    (word_back d [] s)
 
 -- ---- their values
 
-abbrev valued : ℕ → Option ℕ → Option ℕ → Option ℕ → Option ℕ → Result Move (TokenFault MoveKind)
-valued targets f h t a =
-    is_there targets 4 f >>= λ giver. is_there targets 2 t >>= λ taker. number_at 4 f >>= λ from. number_at 3 h >>= λ handle. number_at 2 t >>= λ to. access_at 1 a
-    >>= λ access. Ok (record { from = from; handle = handle; to = to; access = access })
+abbrev valued : ℕ → MoveWords → Option ℕ → Option ℕ → Option ℕ → Option ℕ → Result Move (TokenFault MoveKind)
+valued targets words f h t a =
+    is_there targets words.from.place f >>= λ giver. is_there targets words.to.place t >>= λ taker. number_at words.from.place f >>= λ from. number_at words.handle.place h
+    >>= λ handle. number_at words.to.place t >>= λ to. access_at words.access.place a >>= λ access. Ok (record { from = from; handle = handle; to = to; access = access })
 
-by_tests : (targets : ℕ) (m : Move) (p q r : Bool) → nat_lt m.from targets ≡ p → nat_lt m.to targets ≡ q → nat_lt m.access (2 ^ 32) ≡ r
-    → p ≡ true → q ≡ true → r ≡ true → valued targets (Some m.from) (Some m.handle) (Some m.to) (Some m.access) ≡ Ok m
-by_tests targets m true true true e f g p q r = rw (e, f, g) refl
-by_tests targets m false q r e f g p _ _ = absurd (false≢true p)
-by_tests targets m true false r e f g p k _ = absurd (false≢true k)
-by_tests targets m true true false e f g p q k = absurd (false≢true k)
+by_tests : (targets : ℕ) (words : MoveWords) (m : Move) (p q r : Bool) → nat_lt m.from targets ≡ p → nat_lt m.to targets ≡ q → nat_lt m.access (2 ^ 32) ≡ r
+    → p ≡ true → q ≡ true → r ≡ true → valued targets words (Some m.from) (Some m.handle) (Some m.to) (Some m.access) ≡ Ok m
+by_tests targets words m true true true e f g p q r = rw (e, f, g) refl
+by_tests targets words m false q r e f g p _ _ = absurd (false≢true p)
+by_tests targets words m true false r e f g p k _ = absurd (false≢true k)
+by_tests targets words m true true false e f g p q k = absurd (false≢true k)
 
 record IsSmall (m : Move) : Type 0 where
   from : m.from < 2 ^ 64
@@ -154,30 +170,35 @@ small m h =
     let two = and_parts _ _ three.0 in
     record { from = narrow_small m.from two.0; handle = wide_small m.handle two.1; to = narrow_small m.to three.1; access = narrow_small m.access all.1; narrow = all.1 }
 
-move_back : DecimalsAreRead → (targets : ℕ) (m : Move) → is_between targets m ≡ true → IsSmall m
-    → move_by targets (record { from = decimal m.from; handle = decimal m.handle; to = decimal m.to; access = decimal m.access }) ≡ Ok m
+-- the words of this move
+abbrev written_words : Move → MoveWords
+written_words m = found (decimal m.from) (decimal m.handle) (decimal m.to) (decimal m.access)
+
+move_back : DecimalsAreRead → (targets : ℕ) (m : Move) → is_between targets m ≡ true → IsSmall m → move_by targets (written_words m) ≡ Ok m
 move_back law targets m b s =
     let there = and_parts (nat_lt m.from targets) (nat_lt m.to targets) b in
-    ap (λ f. valued targets f (number_of (decimal m.handle)) (number_of (decimal m.to)) (number_of (decimal m.access))) (law m.from s.from).1
-    ∙ ap (λ h. valued targets (Some m.from) h (number_of (decimal m.to)) (number_of (decimal m.access))) (law m.handle s.handle).1
-    ∙ ap (λ t. valued targets (Some m.from) (Some m.handle) t (number_of (decimal m.access))) (law m.to s.to).1
-    ∙ ap (λ a. valued targets (Some m.from) (Some m.handle) (Some m.to) a) (law m.access s.access).1
-    ∙ by_tests targets m (nat_lt m.from targets) (nat_lt m.to targets) (nat_lt m.access (2 ^ 32)) refl refl refl there.0 there.1 s.narrow
+    let words = written_words m in
+    ap (λ f. valued targets words f (number_of (decimal m.handle)) (number_of (decimal m.to)) (number_of (decimal m.access))) (law m.from s.from).1
+    ∙ ap (λ h. valued targets words (Some m.from) h (number_of (decimal m.to)) (number_of (decimal m.access))) (law m.handle s.handle).1
+    ∙ ap (λ t. valued targets words (Some m.from) (Some m.handle) t (number_of (decimal m.access))) (law m.to s.to).1
+    ∙ ap (λ a. valued targets words (Some m.from) (Some m.handle) (Some m.to) a) (law m.access s.access).1
+    ∙ by_tests targets words m (nat_lt m.from targets) (nat_lt m.to targets) (nat_lt m.access (2 ^ 32)) refl refl refl there.0 there.1 s.narrow
 
 -- ---- the lines
 
-with_back : (moves : List Move) (m : Move) → nat_lt (length moves) 4096 ≡ true → with_move moves m ≡ Ok (moves ++ m ∷ [])
-with_back moves m h = ap {B = Result (List Move) (TokenFault MoveKind)} (λ t. cond t (Ok (moves ++ m ∷ [])) (fails_left 5 TooMany)) h
+with_back : (line : Lexemes) (moves : List Move) (m : Move) → nat_lt (length moves) 4096 ≡ true → with_move line moves m ≡ Ok (moves ++ m ∷ [])
+with_back line moves m h = ap {B = Result (List Move) (TokenFault MoveKind)} (λ t. cond t (Ok (moves ++ m ∷ [])) (fails_at (place_due line) TooMany)) h
 
 line_back : DecimalsAreRead → (targets : ℕ) (moves : List Move) (m : Move) → is_between targets m ≡ true → IsSmall m → nat_lt (length moves) 4096 ≡ true
-    → line_of targets moves (move_words m) ≡ Ok (moves ++ m ∷ [])
+    → line_of targets moves (words_at (move_words m)) ≡ Ok (moves ++ m ∷ [])
 unfolding line_of
 line_back law targets moves m b s few =
-    ap (λ (read : Result MoveWords (TokenFault MoveKind)). read >>= λ found. move_by targets found >>= λ m. with_move moves m)
+    let line = words_at (move_words m) in
+    ap (λ (read : Result MoveWords (TokenFault MoveKind)). read >>= λ found. move_by targets found >>= λ m. with_move line moves m)
     (operands_back (decimal m.from) (decimal m.handle) (decimal m.to) (decimal m.access)
     (decimal_is law m.from s.from) (decimal_is law m.handle s.handle) (decimal_is law m.to s.to) (decimal_is law m.access s.access))
-    ∙ ap (λ (read : Result Move (TokenFault MoveKind)). read >>= λ m. with_move moves m) (move_back law targets m b s)
-    ∙ with_back moves m few
+    ∙ ap (λ (read : Result Move (TokenFault MoveKind)). read >>= λ m. with_move line moves m) (move_back law targets m b s)
+    ∙ with_back line moves m few
 
 -- a line of plain words
 abbrev is_plain_line : List (List ℕ) → Bool
@@ -231,9 +252,9 @@ moves_back laws targets done n (m ∷ moves) there values few =
     let each = and_parts (is_of_values m) (list_all is_of_values moves) values in
     let s = small m each.0 in
     let long = length_push done m in
-    ap (λ (found : List (List ℕ)). on_line by_words (record { number = n; text = words_line (move_words m) }) (line_of targets done found)
+    ap (λ (found : Lexemes). on_line by_tokens (record { number = n; text = words_line (move_words m) }) (line_of targets done found)
     >>= λ more. read_lines (grammar targets) 1 more (numbered (n + 1) (map move_words moves))) (laws.words (move_words m) (line_plain laws.numbers m s))
-    ∙ ap (λ (r : Result (List Move) (TokenFault MoveKind)). on_line by_words (record { number = n; text = words_line (move_words m) }) r
+    ∙ ap (λ (r : Result (List Move) (TokenFault MoveKind)). on_line by_tokens (record { number = n; text = words_line (move_words m) }) r
     >>= λ more. read_lines (grammar targets) 1 more (numbered (n + 1) (map move_words moves)))
     (line_back laws.numbers targets done m between.0 s (less (length done) (length moves) few))
     ∙ moves_back laws targets (done ++ m ∷ []) (n + 1) moves between.1 each.1 (omega (arith, few, long))
@@ -242,8 +263,8 @@ moves_back laws targets done n (m ∷ moves) there values few =
 pub written_read : Laws → WrittenMovesAreRead
 written_read laws targets moves there values few =
     let below = numbered 2 (map move_words moves) in
-    ap (λ (lines : List NumberedLine). by_characters (written moves) (read_by (grammar targets) lines))
+    ap (read_by (grammar targets))
     (lines_back laws.lines (version_words ∷ map move_words moves) (and_from _ _ refl (lines_plain laws.numbers moves values)))
-    ∙ ap (λ (found : List (List ℕ)). by_characters (written moves) (on_line by_words (record { number = 1; text = words_line version_words }) (version_in_words (UnknownWord NoVersion) (codes "sandbox-moves") found)
-    >>= λ version. read_lines (grammar targets) version [] below)) (laws.words version_words refl)
-    ∙ ap (by_characters (written moves)) (moves_back laws targets [] 2 moves there values (omega (arith, few)))
+    ∙ ap (λ (found : Lexemes). on_line by_tokens (record { number = 1; text = words_line version_words }) (version_at (UnknownWord NoVersion) (codes "sandbox-moves") 1 found)
+    >>= λ version. read_lines (grammar targets) version [] below) (laws.words version_words refl)
+    ∙ moves_back laws targets [] 2 moves there values (omega (arith, few))

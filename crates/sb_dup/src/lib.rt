@@ -18,7 +18,7 @@ pub use laws::{
     chains_never_widen, moves_are_granted_if_allowed, pipes_alone_are_not_opened,
     read_moves_are_bounded, refused_moves_change_nothing, written_moves_are_read,
 };
-pub use lines::MOST_MOVES;
+pub use lines::MAX_MOVES;
 pub use move_lines::put_moves;
 pub use move_texts::read_moves;
 pub use moves::{Answered, Move, MoveAnswer, Moves};

@@ -1,9 +1,11 @@
 // Reading the lines below the first.
 ghost use Rattle.std.specs.Prelude.{◌≡◌, None, Ok};
 ghost use Rattle.std.specs.Str.{is_utf8};
-ghost use Rattle.sb_dup.specs.Lines.{ReadsWord, access_at, first_word, has_quote, is_there, line_of, move_by, number_at, operands, with_move, word_at};
+ghost use Rattle.sb_dup.specs.Lines.{access_at, any_word_at, first_word, has_quote, is_there, line_of, move_by, number_at, operand_at, operands, with_move};
 ghost use Rattle.sb_base.specs.Refusals.{Gives, GivesAs};
-ghost use Rattle.sb_text.specs.Steps.{Becomes};
+ghost use Rattle.sb_text.specs.Steps.{Becomes, ReadsAs, end_at};
+ghost use Rattle.sb_dup.specs.declared.faults.MoveKind.TheVariants.{UnknownWord};
+ghost use Rattle.sb_text.specs.declared.refusals.WordFault.TheVariants.{Broken, Extra};
 ghost use Rattle.sb_base.specs.declared.refusals.Refused.TheVariants.{Fault};
 
 use crate::faults::LineRefused;
@@ -13,17 +15,13 @@ use sb_text::{TokenFault, WordFault, Words, number_of};
 use std::str;
 
 /// The most moves of a file.
-pub const MOST_MOVES: usize = 4096;
+pub const MAX_MOVES: usize = 4096;
 
-// This fault where this number of words is left.
-fn fail_left(left: usize, kind: MoveKind) -> LineRefused
-    ensures { result ≡ Fault (record { left = left; unit = None; kind = kind }) }
+// This fault at this place of a line.
+fn fail_at(place: usize, kind: MoveKind) -> LineRefused
+    ensures { result ≡ Fault (record { place = place; kind = kind }) }
 {
-    LineRefused::Fault(TokenFault {
-        left,
-        unit: None,
-        kind,
-    })
+    LineRefused::Fault(TokenFault { place, kind })
 }
 
 // Whether a word has a `"`.
@@ -44,55 +42,74 @@ fn is_utf8(word: &[u8]) -> bool
     }
 }
 
-// The next word, which has no `"` and is UTF-8.
-fn word_at<'a>(words: &mut Words<'a>) -> Result<&'a [u8], LineRefused>
-    ensures { ReadsWord (λ word. word.now) (word_at words.old) result words.new }
+// A word.
+fn any_word<'a>(words: &mut Words<'a>) -> Result<&'a [u8], LineRefused>
+    ensures { ReadsAs (λ word. word.now) (any_word_at words.old) result words.new }
 {
-    let due = words.copy();
-    let Some(word) = words.next_word() else {
-        return Err(due.fail(UnknownWord(WordFault::Missing)));
-    };
-    if has_quote(word) {
-        return Err(due.fail(UnknownWord(WordFault::Quoted)));
+    words.word(UnknownWord(WordFault::Missing))
+}
+
+// A word, and where it begins: the number of bytes from there to the line's end.
+#[derive(Clone, Copy)]
+pub(crate) struct WordAt<'a> {
+    place: usize,
+    bytes: &'a [u8],
+}
+
+// A word without `"` that is UTF-8.
+fn operand<'a>(words: &mut Words<'a>) -> Result<WordAt<'a>, LineRefused>
+    ensures { ReadsAs (λ word. record { place = word.place; bytes = word.bytes.now }) (operand_at words.old) result words.new }
+{
+    let place = words.place();
+    let bytes = any_word(words)?;
+    if has_quote(bytes) {
+        return Err(fail_at(place, UnknownWord(WordFault::Quoted)));
     }
-    if !is_utf8(word) {
-        return Err(due.fail(UnknownWord(WordFault::Broken)));
+    if !is_utf8(bytes) {
+        return Err(fail_at(place, UnknownWord(WordFault::Broken)));
     }
-    Ok(word)
+    Ok(WordAt { place, bytes })
+}
+
+// The line ends here.
+fn line_end(words: &Words) -> Result<(), LineRefused>
+    ensures { Gives (end_at (UnknownWord Extra) (UnknownWord Broken) words.now) result }
+{
+    words.expect_end(UnknownWord(WordFault::Extra))
 }
 
 // Passes the first word, which is `move`.
 fn first_word(words: &mut Words) -> Result<(), LineRefused>
     ensures { Becomes (first_word words.old) result words.new }
 {
-    let due = words.copy();
-    match words.next_word() {
-        None => Err(due.fail(UnknownWord(WordFault::Missing))),
-        Some(word) if word == b"move".as_slice() => Ok(()),
-        Some(_) => Err(due.fail(UnknownWord(WordFault::Unknown))),
+    let line = words.copy();
+    if any_word(words)? == b"move".as_slice() {
+        Ok(())
+    } else {
+        Err(line.fail(UnknownWord(WordFault::Unknown)))
     }
 }
 
 // The words after `move`.
 #[derive(Clone, Copy)]
 pub(crate) struct MoveWords<'a> {
-    from: &'a [u8],
-    handle: &'a [u8],
-    to: &'a [u8],
-    access: &'a [u8],
+    from: WordAt<'a>,
+    handle: WordAt<'a>,
+    to: WordAt<'a>,
+    access: WordAt<'a>,
 }
 
 // `move FROM HANDLE TO ACCESS`.
 fn operands<'a>(line: &Words<'a>) -> Result<MoveWords<'a>, LineRefused>
-    ensures { GivesAs (λ words. record { from = words.from.now; handle = words.handle.now; to = words.to.now; access = words.access.now }) (operands line.now) result }
+    ensures { GivesAs (λ words. record { from = record { place = words.from.place; bytes = words.from.bytes.now }; handle = record { place = words.handle.place; bytes = words.handle.bytes.now }; to = record { place = words.to.place; bytes = words.to.bytes.now }; access = record { place = words.access.place; bytes = words.access.bytes.now } }) (operands line.now) result }
 {
     let mut words = line.copy();
     first_word(&mut words)?;
-    let from = word_at(&mut words)?;
-    let handle = word_at(&mut words)?;
-    let to = word_at(&mut words)?;
-    let access = word_at(&mut words)?;
-    words.expect_end(UnknownWord(WordFault::Extra))?;
+    let from = operand(&mut words)?;
+    let handle = operand(&mut words)?;
+    let to = operand(&mut words)?;
+    let access = operand(&mut words)?;
+    line_end(&words)?;
     Ok(MoveWords {
         from,
         handle,
@@ -102,57 +119,57 @@ fn operands<'a>(line: &Words<'a>) -> Result<MoveWords<'a>, LineRefused>
 }
 
 // If there is a number, there is such a target.
-fn is_there(targets: u32, left: usize, number: Option<u64>) -> Result<(), LineRefused>
-    ensures { Gives (is_there targets left number) result }
+fn is_there(targets: u32, place: usize, number: Option<u64>) -> Result<(), LineRefused>
+    ensures { Gives (is_there targets place number) result }
 {
     match number {
         Some(target) if target >= u64::from(targets) => {
-            Err(fail_left(left, NoSuchTarget { target, targets }))
+            Err(fail_at(place, NoSuchTarget { target, targets }))
         }
         _ => Ok(()),
     }
 }
 
-// A number, where this many words are left.
-fn number_at(left: usize, number: Option<u64>) -> Result<u64, LineRefused>
-    ensures { Gives (number_at left number) result }
+// A number, or the fault of the word at this place.
+fn number_at(place: usize, number: Option<u64>) -> Result<u64, LineRefused>
+    ensures { Gives (number_at place number) result }
 {
     match number {
         Some(number) => Ok(number),
-        None => Err(fail_left(left, BadNumber)),
+        None => Err(fail_at(place, BadNumber)),
     }
 }
 
 // An access: a number below 2^32.
-fn access_at(left: usize, number: Option<u64>) -> Result<u32, LineRefused>
-    ensures { Gives (access_at left number) result }
+fn access_at(place: usize, number: Option<u64>) -> Result<u32, LineRefused>
+    ensures { Gives (access_at place number) result }
 {
     match number {
         Some(number) if number < 1 << 32 => Ok(number as u32),
-        _ => Err(fail_left(left, BadNumber)),
+        _ => Err(fail_at(place, BadNumber)),
     }
 }
 
 // A target that is there, if there is a number.
-fn target_at(targets: u32, left: usize, number: Option<u64>) -> Result<u32, LineRefused>
-    requires { is_there targets left number ≡ Ok tt }
-    ensures { Gives (number_at left number) result }
+fn target_at(targets: u32, place: usize, number: Option<u64>) -> Result<u32, LineRefused>
+    requires { is_there targets place number ≡ Ok tt }
+    ensures { Gives (number_at place number) result }
 {
-    Ok(number_at(left, number)? as u32)
+    Ok(number_at(place, number)? as u32)
 }
 
 // The move of these words, for a script with this number of targets.
 fn move_by(targets: u32, words: MoveWords) -> Result<Move, LineRefused>
-    ensures { Gives (move_by targets (record { from = words.entry.from.now; handle = words.entry.handle.now; to = words.entry.to.now; access = words.entry.access.now })) result }
+    ensures { Gives (move_by targets (record { from = record { place = words.entry.from.place; bytes = words.entry.from.bytes.now }; handle = record { place = words.entry.handle.place; bytes = words.entry.handle.bytes.now }; to = record { place = words.entry.to.place; bytes = words.entry.to.bytes.now }; access = record { place = words.entry.access.place; bytes = words.entry.access.bytes.now } })) result }
 {
-    let from = number_of(words.from);
-    let to = number_of(words.to);
-    is_there(targets, 4, from)?;
-    is_there(targets, 2, to)?;
-    let from = target_at(targets, 4, from)?;
-    let handle = number_at(3, number_of(words.handle))?;
-    let to = target_at(targets, 2, to)?;
-    let access = access_at(1, number_of(words.access))?;
+    let from = number_of(words.from.bytes);
+    let to = number_of(words.to.bytes);
+    is_there(targets, words.from.place, from)?;
+    is_there(targets, words.to.place, to)?;
+    let from = target_at(targets, words.from.place, from)?;
+    let handle = number_at(words.handle.place, number_of(words.handle.bytes))?;
+    let to = target_at(targets, words.to.place, to)?;
+    let access = access_at(words.access.place, number_of(words.access.bytes))?;
     Ok(Move {
         from,
         handle,
@@ -162,11 +179,11 @@ fn move_by(targets: u32, words: MoveWords) -> Result<Move, LineRefused>
 }
 
 // The moves with one more, if there are not too many.
-fn add_move(moves: &mut Moves, m: Move) -> Result<(), LineRefused>
-    ensures { Becomes (with_move moves.old m) result moves.new }
+fn add_move(line: &Words, moves: &mut Moves, m: Move) -> Result<(), LineRefused>
+    ensures { Becomes (with_move line.now moves.old m) result moves.new }
 {
-    if moves.len() >= MOST_MOVES {
-        return Err(fail_left(5, TooMany));
+    if moves.len() >= MAX_MOVES {
+        return Err(line.fail(TooMany));
     }
     moves.push(m)?;
     Ok(())
@@ -174,10 +191,10 @@ fn add_move(moves: &mut Moves, m: Move) -> Result<(), LineRefused>
 
 /// What a line adds to the moves so far. After an error they are unspecified.
 #[tactic(auto, unfolding(crate::specs::Lines::line_of))]
-pub(crate) fn line_of(targets: u32, moves: &mut Moves, words: &Words) -> Result<(), LineRefused>
-    ensures { Becomes (line_of targets moves.old words.now) result moves.new }
+pub(crate) fn line_of(targets: u32, moves: &mut Moves, line: &Words) -> Result<(), LineRefused>
+    ensures { Becomes (line_of targets moves.old line.now) result moves.new }
 {
-    let found = operands(words)?;
+    let found = operands(line)?;
     let m = move_by(targets, found)?;
-    add_move(moves, m)
+    add_move(line, moves, m)
 }

@@ -1,9 +1,9 @@
 -- Generated scripts are ready, and their channels are clean.
-use Rattle.std.proofs.Common.{◌≡◌, ◌<◌, ◌≤◌, ◌+◌, ◌&&◌, ◌||◌, refl, ap, true, false, not, ℕ, Bool, List, length, arith}
+use Rattle.std.proofs.lemmas.Bool.{and_from, or_from, le-leb}
+use Rattle.std.proofs.Common.{◌≡◌, ◌<◌, ◌≤◌, ◌+◌, ◌&&◌, ◌||◌, refl, ap, true, false, not, ℕ, List, length, arith}
 use Rattle.std.specs.Prelude.{zero, suc, nat_le, is_ok}
 use Rattle.std.specs.Fmt.{digits}
 use Rattle.std.specs.List.{list_all, list_any}
-use Rattle.std.proofs.lemmas.Bool.Decides.{nat_tests}
 use Rattle.sb_book.specs.Readiness.{is_judged, is_ready}
 use Rattle.sb_kernel.specs.Openings.{opened}
 use Rattle.sb_rule.specs.WellMade.{are_well_made}
@@ -18,15 +18,6 @@ use Rattle.sb_gen.specs.Scripts.{start_of, target_of, targets_of, threads_of, sc
 use Rattle.sb_gen.proofs.EachKind.{statement_fits, statement_is_call}
 use Rattle.sb_gen.proofs.Numbers.{holds_below, one_below}
 
-both : (a b : Bool) → a ≡ true → b ≡ true → (a && b) ≡ true
-both a b ha hb = rw (ha, hb) refl
-
-neither : (a b : Bool) → a ≡ false → b ≡ false → (a || b) ≡ false
-neither a b ha hb = rw (ha, hb) refl
-
-within : (n m : ℕ) → n ≤ m → nat_le n m ≡ true
-within n m h = grind (arith, nat_tests)
-
 -- ---- the statements of a thread
 
 statement_count : (t n x : ℕ) → length (statements_of t n x) ≡ n
@@ -37,25 +28,25 @@ module _ (targets : List TargetScript) where
   statements_fit : (t n x : ℕ) → t < 8 → list_all (is_statement targets) (statements_of t n x) ≡ true
   statements_fit t zero x small = refl
   statements_fit t (suc n) x small =
-      both (is_statement targets (statement_of t (next x))) (list_all (is_statement targets) (statements_of t n (next x)))
+      and_from (is_statement targets (statement_of t (next x))) (list_all (is_statement targets) (statements_of t n (next x)))
       (statement_fits targets t (next x) small) (statements_fit t n (next x) small)
 
   thread_fits : (t n x : ℕ) → t < 8 → n ≤ 4096 → is_thread targets (statements_of t n x) ≡ true
   thread_fits t n x small few =
-      both (nat_le (length (statements_of t n x)) most_statements) (list_all (is_statement targets) (statements_of t n x))
-      (rw (statement_count t n x) (within n 4096 few)) (statements_fit t n x small)
+      and_from (nat_le (length (statements_of t n x)) most_statements) (list_all (is_statement targets) (statements_of t n x))
+      (rw (statement_count t n x) (le-leb n 4096 few)) (statements_fit t n x small)
 
   -- ---- targets
 
   target_fits : (t n x : ℕ) → t < 8 → n ≤ 4096 → is_target targets (target_of t n x) ≡ true
   target_fits t n x small few =
-      both (is_thread targets (statements_of t n x)) (is_thread targets (statements_of t n (after n x)) && true)
-      (thread_fits t n x small few) (both (is_thread targets (statements_of t n (after n x))) true (thread_fits t n (after n x) small few) refl)
+      and_from (is_thread targets (statements_of t n x)) (is_thread targets (statements_of t n (after n x)) && true)
+      (thread_fits t n x small few) (and_from (is_thread targets (statements_of t n (after n x))) true (thread_fits t n (after n x) small few) refl)
 
   targets_fit : (t n calls x : ℕ) → t + n ≤ 8 → calls ≤ 4096 → list_all (is_target targets) (targets_of t n calls x) ≡ true
   targets_fit t zero calls x within few = refl
   targets_fit t (suc n) calls x within few =
-      both (is_target targets (target_of t calls x)) (list_all (is_target targets) (targets_of (t + 1) n calls (after calls (after calls x))))
+      and_from (is_target targets (target_of t calls x)) (list_all (is_target targets) (targets_of (t + 1) n calls (after calls (after calls x))))
       (target_fits t calls x (omega arith) few) (targets_fit (t + 1) n calls (after calls (after calls x)) (omega arith) few)
 
 target_count : (t n calls x : ℕ) → length (targets_of t n calls x) ≡ n
@@ -68,9 +59,9 @@ names_of_few_differ calls x = refl
 
 few_targets : (n calls x : ℕ) → n ≤ 8 → calls ≤ 4096 → are_targets (targets_of 0 n calls x) ≡ true
 few_targets n calls x small few =
-    both (nat_le (length (targets_of 0 n calls x)) most_targets && names_differ (targets_of 0 n calls x)) (list_all (is_target (targets_of 0 n calls x)) (targets_of 0 n calls x))
-    (both (nat_le (length (targets_of 0 n calls x)) most_targets) (names_differ (targets_of 0 n calls x))
-    (rw (target_count 0 n calls x) (within n 8 small))
+    and_from (nat_le (length (targets_of 0 n calls x)) most_targets && names_differ (targets_of 0 n calls x)) (list_all (is_target (targets_of 0 n calls x)) (targets_of 0 n calls x))
+    (and_from (nat_le (length (targets_of 0 n calls x)) most_targets) (names_differ (targets_of 0 n calls x))
+    (rw (target_count 0 n calls x) (le-leb n 8 small))
     (one_below (λ n. names_differ (targets_of 0 n calls x)) 9 n (names_of_few_differ calls x) (omega arith)))
     (targets_fit (targets_of 0 n calls x) 0 n calls x (omega arith) few)
 
@@ -96,8 +87,8 @@ starts_are_placed = refl
 
 pub scripts_are_sound : (seed n calls : ℕ) → n ≤ 8 → calls ≤ 4096 → is_sound (script_of seed n calls) ≡ true
 scripts_are_sound seed n calls small few =
-    both (nat_le (length (start_of n)) most_start_lines && list_all is_start (start_of n)) (are_targets (targets_of 0 n calls seed))
-    (both (nat_le (length (start_of n)) most_start_lines) (list_all is_start (start_of n))
+    and_from (nat_le (length (start_of n)) most_start_lines && list_all is_start (start_of n)) (are_targets (targets_of 0 n calls seed))
+    (and_from (nat_le (length (start_of n)) most_start_lines) (list_all is_start (start_of n))
     (one_below (λ n. nat_le (length (start_of n)) most_start_lines) 9 n starts_are_few (omega arith))
     (one_below (λ n. list_all is_start (start_of n)) 9 n starts_are_named (omega arith)))
     (few_targets n calls seed small few)
@@ -105,9 +96,9 @@ scripts_are_sound seed n calls small few =
 pub scripts_are_ready : (policies : List Policy) (seed n calls : ℕ) → n ≤ 8 → calls ≤ 4096 → length policies ≡ 1 → are_well_made policies ≡ true
     → is_ready policies (script_of seed n calls) ≡ true
 scripts_are_ready policies seed n calls small few one made =
-    both (is_sound (script_of seed n calls) && are_well_made policies && list_all (is_judged (length policies)) (targets_of 0 n calls seed)) (is_ok (opened (start_of n)))
-    (both (is_sound (script_of seed n calls) && are_well_made policies) (list_all (is_judged (length policies)) (targets_of 0 n calls seed))
-    (both (is_sound (script_of seed n calls)) (are_well_made policies) (scripts_are_sound seed n calls small few) made)
+    and_from (is_sound (script_of seed n calls) && are_well_made policies && list_all (is_judged (length policies)) (targets_of 0 n calls seed)) (is_ok (opened (start_of n)))
+    (and_from (is_sound (script_of seed n calls) && are_well_made policies) (list_all (is_judged (length policies)) (targets_of 0 n calls seed))
+    (and_from (is_sound (script_of seed n calls)) (are_well_made policies) (scripts_are_sound seed n calls small few) made)
     (rw one (targets_are_judged 0 n calls seed)))
     (one_below (λ n. is_ok (opened (start_of n))) 9 n starts_are_placed (omega arith))
 
@@ -117,19 +108,19 @@ module _ (target channel : ℕ) where
   statements_are_calls : (t n x : ℕ) → list_any (writes_channel target channel) (statements_of t n x) ≡ false
   statements_are_calls t zero x = refl
   statements_are_calls t (suc n) x =
-      neither (writes_channel target channel (statement_of t (next x))) (list_any (writes_channel target channel) (statements_of t n (next x)))
+      or_from (writes_channel target channel (statement_of t (next x))) (list_any (writes_channel target channel) (statements_of t n (next x)))
       (statement_is_call target channel t (next x)) (statements_are_calls t n (next x))
 
   threads_are_calls : (t n x : ℕ) → threads_write target channel (threads_of t n x) ≡ false
   threads_are_calls t n x =
-      neither (list_any (writes_channel target channel) (statements_of t n x)) (list_any (writes_channel target channel) (statements_of t n (after n x)) || false)
+      or_from (list_any (writes_channel target channel) (statements_of t n x)) (list_any (writes_channel target channel) (statements_of t n (after n x)) || false)
       (statements_are_calls t n x)
-      (neither (list_any (writes_channel target channel) (statements_of t n (after n x))) false (statements_are_calls t n (after n x)) refl)
+      (or_from (list_any (writes_channel target channel) (statements_of t n (after n x))) false (statements_are_calls t n (after n x)) refl)
 
   targets_are_calls : (t n calls x : ℕ) → list_any (λ u. threads_write target channel u.threads) (targets_of t n calls x) ≡ false
   targets_are_calls t zero calls x = refl
   targets_are_calls t (suc n) calls x =
-      neither (threads_write target channel (threads_of t calls x)) (list_any (λ u. threads_write target channel u.threads) (targets_of (t + 1) n calls (after calls (after calls x))))
+      or_from (threads_write target channel (threads_of t calls x)) (list_any (λ u. threads_write target channel u.threads) (targets_of (t + 1) n calls (after calls (after calls x))))
       (threads_are_calls t calls x) (targets_are_calls (t + 1) n calls (after calls (after calls x)))
 
   pub scripts_are_clean : (seed n calls : ℕ) → is_clean (script_of seed n calls) target channel ≡ true

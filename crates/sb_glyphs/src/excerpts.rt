@@ -7,13 +7,13 @@ use sb_base::NoMemory;
 use unicode_width::UnicodeWidthStr;
 
 /// How many glyphs of a line are shown at most.
-pub const MOST_GLYPHS: usize = 120;
+pub const MAX_GLYPHS: usize = 120;
 
 /// How many glyphs of a line, from at most 120 before a place on, are enough for what is shown round it.
-pub const MOST_NEAR: usize = 240;
+pub const MAX_NEAR: usize = 240;
 
 /// How many of them precede the place at most, if as many follow.
-const MOST_BEFORE: usize = 60;
+const MAX_BEFORE: usize = 60;
 
 // The place of the first glyph that is shown.
 fn window_start(place: usize, count: usize) -> usize
@@ -21,8 +21,8 @@ fn window_start(place: usize, count: usize) -> usize
     ensures within { result ≤ count }
 {
     place
-        .saturating_sub(MOST_BEFORE)
-        .min(count.saturating_sub(MOST_GLYPHS))
+        .saturating_sub(MAX_BEFORE)
+        .min(count.saturating_sub(MAX_GLYPHS))
 }
 
 /// The first n glyphs, or all if there are fewer.
@@ -55,8 +55,8 @@ pub fn put_excerpt(
     let start = window_start(place, glyphs.len());
     let rest = &glyphs[start..];
     out.push_str(dots(others || start > 0))?;
-    put_glyphs(out, first_glyphs(rest, MOST_GLYPHS))?;
-    out.push_str(dots(rest.len() > MOST_GLYPHS))?;
+    put_glyphs(out, first_glyphs(rest, MAX_GLYPHS))?;
+    out.push_str(dots(rest.len() > MAX_GLYPHS))?;
     Ok(())
 }
 

@@ -7,7 +7,7 @@ use crate::glyphs::{Glyph, first_glyphs_of, put_glyphs};
 use sb_base::NoMemory;
 
 /// How many characters of a token are shown at most.
-const MOST_NAMED: usize = 40;
+const MAX_NAMED: usize = 40;
 
 fn is_quote(glyph: Glyph) -> bool
     ensures { result ≡ is_char 34 glyph }
@@ -56,8 +56,8 @@ fn put_quoted_glyphs(out: &mut String, glyphs: &[Glyph]) -> Result<(), NoMemory>
     ensures { OnOk result (string_bytes out.new ≡ string_bytes out.old ++ quoted glyphs.now) }
 {
     out.push('"')?;
-    put_glyphs(out, first_glyphs(glyphs, MOST_NAMED))?;
-    out.push_str(dots(glyphs.len() > MOST_NAMED))?;
+    put_glyphs(out, first_glyphs(glyphs, MAX_NAMED))?;
+    out.push_str(dots(glyphs.len() > MAX_NAMED))?;
     out.push('"')?;
     Ok(())
 }
@@ -77,6 +77,6 @@ pub fn put_first_token(out: &mut String, glyphs: &[Glyph]) -> Result<(), NoMemor
 pub fn put_quoted(out: &mut String, bytes: &[u8]) -> Result<(), NoMemory>
     ensures { OnOk result (string_bytes out.new ≡ string_bytes out.old ++ quoted_bytes bytes.now) }
 {
-    let glyphs = first_glyphs_of(*out.allocator(), bytes, MOST_NAMED + 1)?;
+    let glyphs = first_glyphs_of(*out.allocator(), bytes, MAX_NAMED + 1)?;
     put_quoted_glyphs(out, &glyphs)
 }

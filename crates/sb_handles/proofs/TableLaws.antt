@@ -1,4 +1,5 @@
 -- The laws of handle tables.
+use Rattle.std.proofs.Math.Bool.{and-false}
 use Rattle.std.proofs.Common.{◌≡◌, ℕ, ◌+◌, ◌<◌, ◌==◌, Bool, true, false, cond, refl, sym, subst, ap, ◌∙◌, arith, List, [], ◌∷◌, ◌++◌, map, if◌then◌else◌, nat_le, nat_cmp}
 use Rattle.std.proofs.lemmas.Bool.{and_parts, false≢true}
 use Rattle.std.proofs.lemmas.Bool.Decides.{nat_tests}
@@ -376,19 +377,15 @@ seen_if : (test : ℕ × ℕ → Bool) (row : (ℕ × ℕ) × Share) (shares : S
 seen_if test row shares true = refl
 seen_if test row shares false = refl
 
-and_false : (b : Bool) → (b && false) ≡ false
-and_false true = refl
-and_false false = refl
-
 left_by : (share : Share) (before after : Option Share) (u v w s : Bool) → (u ≡ true → s ≡ false → w ≡ false) → (u ≡ false → s ≡ true → w ≡ false)
     → after ≡ (if s then None else before)
     → (if not u then cond (v && w) (Some share) after else after) ≡ (if s then None else cond (v && w) (Some share) before)
 left_by share before after true v w true f g h = h
 left_by share before after true v w false f g h =
-    let none : (v && w) ≡ false = ap (λ w. v && w) (f refl refl) ∙ and_false v in
+    let none : (v && w) ≡ false = ap (λ w. v && w) (f refl refl) ∙ and-false v in
     h ∙ sym (ap (λ b. cond b (Some share) before) none)
 left_by share before after false v w true f g h =
-    let none : (v && w) ≡ false = ap (λ w. v && w) (g refl refl) ∙ and_false v in
+    let none : (v && w) ≡ false = ap (λ w. v && w) (g refl refl) ∙ and-false v in
     ap (λ b. cond b (Some share) after) none ∙ h
 left_by share before after false v w false f g h = ap (λ more. cond (v && w) (Some share) more) h
 

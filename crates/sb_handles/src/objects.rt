@@ -1,4 +1,5 @@
 // What a handle is open on, with which access and sharing.
+ghost use Rattle.std.specs.Prelude.{◌≡◌};
 
 use crate::masks::{Access, Sharing};
 use thiserror::Error;
@@ -34,6 +35,19 @@ pub struct Held {
     pub access: Access,
     /// What others may do to the object while it is open; 0 if the call has none.
     pub sharing: Sharing,
+}
+
+impl Held {
+    /// The object of a service and a number, with this access and sharing.
+    pub fn new(service: Service, number: u64, access: Access, sharing: Sharing) -> Held
+        ensures { result ≡ record { object = record { service = service; number = number }; access = access; sharing = sharing } }
+    {
+        Held {
+            object: Object { service, number },
+            access,
+            sharing,
+        }
+    }
 }
 
 /// A handle that a target holds.

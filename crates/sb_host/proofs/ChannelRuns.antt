@@ -1,5 +1,5 @@
 -- Runs on the channels of one target.
-use Rattle.std.proofs.Common.{◌≡◌, ℕ, ◌+◌, ◌≤◌, Bool, true, false, cond, List, [], ◌∷◌, ◌++◌, length, map, sym, subst, arith}
+use Rattle.std.proofs.Common.{◌≡◌, ℕ, ◌≤◌, Bool, true, false, cond, List, [], ◌∷◌, ◌++◌, length, map, sym, subst, arith}
 use mathlib.Core.Option.{Option, none, some}
 use Rattle.sb_actor.specs.Laws.{Starts, ThreadKeeps, WorkerKeeps}
 use Rattle.sb_actor.specs.Moves.{is_clean}

@@ -1,13 +1,13 @@
 -- Answers in a namespace make a history.
-use Rattle.std.proofs.Common.{◌≡◌, ◌∙◌, ℕ, List, [], ◌∷◌, Option, Some, refl, sym, ap, subst}
+use Rattle.std.proofs.Common.{◌≡◌, ◌∙◌, [], ◌∷◌, Option, Some, refl, ap, subst}
 use Rattle.sb_block.specs.Copies.{Copied}
 use Rattle.sb_rule.specs.Verdicts.{policy_at}
 use Rattle.sb_kernel.specs.Namespaces.{Space}
 use Rattle.sb_book.specs.Decisions.{decision_of}
-use Rattle.sb_book.specs.Histories.{IsEntry, IsLegalFrom, Setting, space_after, space_from}
+use Rattle.sb_book.specs.Histories.{IsLegalFrom, Setting, space_after, space_from}
 use Rattle.sb_book.specs.declared.decisions.Decision.{Decision}
 use Rattle.sb_host.specs.HostWorkers.{after_performing_on, space_after_performing, space_by}
-use Rattle.sb_host.specs.HistoryLaws.{Answering, HostsKeepTheSpace, HostsMakeHistories, HostsReplyAsEntries, IsAnswering, entries_by, entry_by, space_after_all}
+use Rattle.sb_host.specs.HistoryLaws.{Answering, HostsKeepTheSpace, HostsMakeHistories, HostsReplyAsEntries, IsAnswering, entries_by}
 
 -- what is decided of the copy
 abbrev ruled : Setting → Answering → Decision

@@ -1,9 +1,11 @@
 -- A worker is true to what its host has told.
 use Rattle.std.specs.Prelude.{is_some, option_map, unwrap_or, nat_le, nat_lt}
-use Rattle.std.proofs.Common.{◌≡◌, ◌∙◌, ℕ, ◌+◌, ◌-◌, Bool, true, false, ◌==◌, List, [], ◌∷◌, ◌++◌, length, Option, None, Some, refl, sym, ap, subst}
+use Rattle.std.proofs.Common.{◌≡◌, ◌∙◌, ℕ, zero, suc, ◌+◌, ◌-◌, ◌≤◌, Bool, true, false, ◌==◌, List, [], ◌∷◌, ◌++◌, length, Option, None, Some, refl, sym, ap, subst, arith}
 use Rattle.std.proofs.lemmas.Bool.{false≢true}
+use Rattle.std.proofs.lemmas.Bool.Decides.{nat_tests}
+use Rattle.std.proofs.lemmas.List.{append_assoc, append-nil, length-append}
 use Rattle.sb_call.specs.declared.replies.Answer.{Answer as HostAnswer}
-use Rattle.sb_block.specs.Copies.{Copied, is_end, mark_of}
+use Rattle.sb_block.specs.Copies.{Copied, copied, is_end, mark_of}
 use Rattle.sb_block.specs.Packing.{offset_of}
 use Rattle.sb_block.specs.Replies.{reply_words}
 use Rattle.sb_rule.specs.declared.policies.Policy.{Policy}
@@ -12,11 +14,11 @@ use Rattle.sb_book.specs.Replies.{performed_reply}
 use Rattle.sb_book.specs.declared.decisions.Decision.{Decision}
 use Rattle.sb_book.specs.declared.decisions.Decision.TheVariants.{Refused, Denied, Faked, Performed}
 use Rattle.sb_actor.specs.Acts.{ready, turn_in, value_in}
-use Rattle.sb_actor.specs.Observations.{Observation}
+use Rattle.sb_actor.specs.Observations.{Observation, Done, Value}
 use Rattle.sb_actor.specs.WorkerStages.{WorkerAt, WorkerStage, Look, Count, End, Copy, Take, Answer, Give, Reply, Ack}
-use Rattle.sb_host.specs.HostWorkers.{after_answer_to, after_performing_on, copy_to_answer, host_adopt, host_start, replied}
+use Rattle.sb_host.specs.HostWorkers.{HostAt, after_answer_to, after_dones, after_performing_on, after_step, after_values, copy_to_answer, host_adopt, host_start, replied}
 use Rattle.sb_host.specs.Replies.{HostsReplyAsBooks, host_reply}
-use Rattle.sb_host.specs.HostLaws.{AdoptingHostsAreTrue, AnswerWith, DecideBy, Found, HostCall, Hosted, IsTrueTo, Journal, Loaded, NewHostsAreTrue, PerformingIsAnswering, Stored, Told, hosted_after, hosted_by, no_journal}
+use Rattle.sb_host.specs.HostLaws.{AdoptingHostsAreTrue, AnswerWith, DecideBy, Found, HostCall, Hosted, IsTrueTo, Journal, Loaded, NewHostsAreTrue, PerformingIsAnswering, Stored, Told, hosted_after, hosted_by, no_journal, with_words}
 
 -- a worker is true to what was told
 abbrev IsTrue : Hosted → Type 0
@@ -67,6 +69,70 @@ found w n (Reply copy reply i) decision j seen e h = by (i == 11) refl
     by false t = rw (e, t) h
 found w n (Ack copy reply) decision j seen e h = rw (e) h.0
 
+-- a host of its parts
+abbrev host : WorkerAt → ℕ → WorkerStage → Option Decision → HostAt
+host w n stage decision = record { worker = record w { stage = stage }; taken_over = n; decision = decision }
+
+abbrev IsTrueAt : HostAt → Journal → Type 0
+IsTrueAt h j = IsTrue (record { host = h; journal = j })
+
+no_more : (end copied after left : ℕ) → after ≡ copied + 1 → (after == end) ≡ true → suc (suc left) ≤ end - copied → ⊥
+no_more end copied after left more e h = grind (arith, nat_tests, more, e, h)
+
+one_less : (end copied after left : ℕ) → after ≡ copied + 1 → suc left ≤ end - copied → left ≤ end - after
+one_less end copied after left more h = omega (arith, more, h)
+
+-- one load, which leads to a copy that is whole or not
+abbrev copied_as : Bool → ℕ → ℕ → List ℕ → WorkerStage
+copied_as true count end words = Take (copied count end words)
+copied_as false count end words = Copy count end words
+
+one_load : (b : Bool) (w : WorkerAt) (n count end : ℕ) (decision : Option Decision) (words : List ℕ) (value : ℕ) → nat_lt n w.channels ≡ false
+    → (length (words ++ value ∷ []) == end) ≡ b
+    → after_step (host w n (Copy count end words) decision) (Value value) ≡ host w n (copied_as b count end (words ++ value ∷ [])) decision
+one_load true w n count end decision words value e s = rw (e, s) refl
+one_load false w n count end decision words value e s = rw (e, s) refl
+
+-- and one store, of the last word or not
+abbrev stored_as : Bool → Copied → List ℕ → ℕ → WorkerStage
+stored_as true copy reply i = Ack copy reply
+stored_as false copy reply i = Reply copy reply (i + 1)
+
+one_store : (b : Bool) (w : WorkerAt) (n : ℕ) (copy : Copied) (reply : List ℕ) (i : ℕ) (decision : Option Decision) → nat_lt n w.channels ≡ false
+    → (i == 11) ≡ b → after_step (host w n (Reply copy reply i) decision) Done ≡ host w n (stored_as b copy reply i) decision
+one_store true w n copy reply i decision e s = rw (e, s) refl
+one_store false w n copy reply i decision e s = rw (e, s) refl
+
+-- after loads of as many words as are left, or fewer
+loads : (w : WorkerAt) (n count end : ℕ) (decision : Option Decision) (values words : List ℕ) (j : Journal) → nat_lt n w.channels ≡ false
+    → length values ≤ end - length words → IsTrueTo (Copy count end words) decision j
+    → IsTrueAt (after_values (host w n (Copy count end words) decision) values) (with_words j values)
+loads w n count end decision [] words j e few h = (h.0, h.1 ∙ sym (append-nil j.words))
+loads w n count end decision (value ∷ values) words j e few h =
+    by (length (words ++ value ∷ []) == end) refl
+    (λ fewer. loads w n count end decision values (words ++ value ∷ []) (with_words j (value ∷ [])) e fewer (h.0, ap (λ l. l ++ value ∷ []) h.1))
+  where
+    more : length (words ++ value ∷ []) ≡ length words + 1
+    more = length-append words (value ∷ [])
+
+    -- with the last word there are no more values
+    ended : (values : List ℕ) → (length (words ++ value ∷ []) == end) ≡ true → suc (length values) ≤ end - length words
+        → IsTrueAt (after_values (host w n (Copy count end words) decision) (value ∷ values)) (with_words j (value ∷ values))
+    ended [] s few =
+        subst (λ x. IsTrueAt x (with_words j (value ∷ []))) (sym (one_load true w n count end decision words value e s)) (h.0, ap (λ l. l ++ value ∷ []) h.1)
+    ended (v ∷ values) s few = absurd (no_more end (length words) (length (words ++ value ∷ [])) (length values) more s few)
+
+    by : (b : Bool) → (length (words ++ value ∷ []) == end) ≡ b
+        → (length values ≤ end - length (words ++ value ∷ [])
+        → IsTrueAt (after_values (host w n (Copy count end (words ++ value ∷ [])) decision) values) (with_words (with_words j (value ∷ [])) values))
+        → IsTrueAt (after_values (host w n (Copy count end words) decision) (value ∷ values)) (with_words j (value ∷ values))
+    by true s again = ended values s few
+    by false s again =
+        subst (λ x. IsTrueAt (after_values x values) (with_words j (value ∷ values))) (sym (one_load false w n count end decision words value e s))
+        (subst (λ l. IsTrueAt (after_values (host w n (Copy count end (words ++ value ∷ [])) decision) values) (record j { words = l }))
+        (append_assoc j.words (value ∷ []) values)
+        (again (one_less end (length words) (length (words ++ value ∷ [])) (length values) more few)))
+
 loaded : (w : WorkerAt) (n : ℕ) (stage : WorkerStage) (decision : Option Decision) (j : Journal) (values : List ℕ) → nat_lt n w.channels ≡ false
     → Keeps w n stage decision j (Loaded values)
 loaded w n Look decision j values e h = rw (e) h
@@ -74,19 +140,37 @@ loaded w n Count decision j values e h = rw (e) h
 loaded w n (End count) decision j values e h = rw (e) h
 loaded w n (Copy count end words) decision j values e h = by (nat_le (length values) (end - length words)) refl
   where
-    whole : (b : Bool) → (length (words ++ values) == end) ≡ b → nat_le (length values) (end - length words) ≡ true
-        → IsTrue (hosted_after (hosted w n (Copy count end words) decision j) (Loaded values))
-    whole true s t = rw (e, t, s) (h.0, ap (λ l. l ++ values) h.1)
-    whole false s t = rw (e, t, s) (h.0, ap (λ l. l ++ values) h.1)
-
     by : (b : Bool) → nat_le (length values) (end - length words) ≡ b → IsTrue (hosted_after (hosted w n (Copy count end words) decision j) (Loaded values))
-    by true t = whole (length (words ++ values) == end) refl t
+    by true t = rw (e, t) (loads w n count end decision values words j e (grind (arith, nat_tests, t)) h)
     by false t = rw (e, t) h
 loaded w n (Take copy) decision j values e h = rw (e) h
 loaded w n (Answer copy) decision j values e h = rw (e) h
 loaded w n (Give copy reply) decision j values e h = rw (e) h
 loaded w n (Reply copy reply i) decision j values e h = rw (e) h
 loaded w n (Ack copy reply) decision j values e h = rw (e) h
+
+no_more_stores : (i left : ℕ) → (i == 11) ≡ true → suc (suc left) ≤ 12 - i → ⊥
+no_more_stores i left e h = grind (arith, nat_tests, e, h)
+
+one_store_less : (i left : ℕ) → suc left ≤ 12 - i → left ≤ 12 - (i + 1)
+one_store_less i left h = omega (arith, h)
+
+-- after stores of as many words as are left, or fewer
+stores : (w : WorkerAt) (n : ℕ) (copy : Copied) (reply : List ℕ) (count i : ℕ) (decision : Option Decision) (j : Journal) → nat_lt n w.channels ≡ false
+    → count ≤ 12 - i → IsTrueTo (Reply copy reply i) decision j → IsTrueAt (after_dones (host w n (Reply copy reply i) decision) count) j
+stores w n copy reply zero i decision j e few h = h
+stores w n copy reply (suc count) i decision j e few h =
+    by (i == 11) refl (λ fewer. stores w n copy reply count (i + 1) decision j e fewer h)
+  where
+    ended : (count : ℕ) → (i == 11) ≡ true → suc count ≤ 12 - i → IsTrueAt (after_dones (host w n (Reply copy reply i) decision) (suc count)) j
+    ended zero s few = subst (λ x. IsTrueAt x j) (sym (one_store true w n copy reply i decision e s)) h
+    ended (suc count) s few = absurd (no_more_stores i count s few)
+
+    by : (b : Bool) → (i == 11) ≡ b → (count ≤ 12 - (i + 1) → IsTrueAt (after_dones (host w n (Reply copy reply (i + 1)) decision) count) j)
+        → IsTrueAt (after_dones (host w n (Reply copy reply i) decision) (suc count)) j
+    by true s again = ended count s few
+    by false s again =
+        subst (λ x. IsTrueAt (after_dones x count) j) (sym (one_store false w n copy reply i decision e s)) (again (one_store_less i count few))
 
 stored : (w : WorkerAt) (n : ℕ) (stage : WorkerStage) (decision : Option Decision) (j : Journal) (count : ℕ) → nat_lt n w.channels ≡ false
     → Keeps w n stage decision j (Stored count)
@@ -99,12 +183,8 @@ stored w n (Answer copy) decision j count e h = rw (e) h
 stored w n (Give copy reply) decision j count e h = rw (e) h
 stored w n (Reply copy reply i) decision j count e h = by (nat_le count (12 - i)) refl
   where
-    whole : (b : Bool) → (i + count == 12) ≡ b → nat_le count (12 - i) ≡ true → IsTrue (hosted_after (hosted w n (Reply copy reply i) decision j) (Stored count))
-    whole true s t = rw (e, t, s) h
-    whole false s t = rw (e, t, s) h
-
     by : (b : Bool) → nat_le count (12 - i) ≡ b → IsTrue (hosted_after (hosted w n (Reply copy reply i) decision j) (Stored count))
-    by true t = whole (i + count == 12) refl t
+    by true t = rw (e, t) (stores w n copy reply count i decision j e (grind (arith, nat_tests, t)) h)
     by false t = rw (e, t) h
 stored w n (Ack copy reply) decision j count e h = rw (e) h
 

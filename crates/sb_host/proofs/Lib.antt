@@ -1,5 +1,6 @@
 pub mod Standing
 pub mod AnswerLemmas
+pub mod MoveLemmas
 pub mod Fitting
 pub mod LiteralTexts
 pub mod HostTruth

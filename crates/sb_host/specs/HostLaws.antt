@@ -10,9 +10,8 @@ use Rattle.sb_book.specs.declared.decisions.Decision.{Decision}
 use Rattle.sb_actor.specs.Acts.{value_in}
 use Rattle.sb_actor.specs.Observations.{Observation}
 use Rattle.sb_actor.specs.WorkerStages.{WorkerStage, Look, Count, End, Copy, Take, Answer, Give, Reply, Ack}
-use Rattle.sb_actor.specs.WordSteps.{worker_load}
 use Rattle.sb_host.specs.Replies.{IsSpaceAnswer, host_reply}
-use Rattle.sb_host.specs.HostWorkers.{HostAt, after_answer, after_decision, after_loads, after_performing, after_step, after_stores, can_load, can_reply, copy_to_answer, host_adopt, host_start, is_taking_over}
+use Rattle.sb_host.specs.HostWorkers.{HostAt, after_answer, after_decision, after_loads, after_performing, after_step, after_stores, can_load, can_reply, copy_to_answer, host_adopt, host_start, is_copying}
 
 -- a call of a host: it tells what a step found, or what loads in a row found, or how many stores it made, gives a policy to decide by, or its answer
 pub data HostCall : Type 0 where
@@ -44,10 +43,6 @@ pub record Journal : Type 0 where
 
 abbrev pub no_journal : Journal
 no_journal = record { words = []; policy = None; last = None }
-
--- its next step loads a word of the block into the copy
-abbrev pub is_copying : HostAt → Bool
-is_copying h = not (is_taking_over h) && is_some (worker_load h.worker)
 
 abbrev pub with_words : Journal → List ℕ → Journal
 with_words j words = record j { words = j.words ++ words }

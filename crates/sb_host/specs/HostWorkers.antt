@@ -1,5 +1,5 @@
 -- The worker of a host: its next step, and what each call of the host makes of it. A call that does not fit changes nothing.
-use Rattle.std.specs.Prelude.{◌≡◌, ℕ, ◌+◌, Bool, true, false, ◌&&◌, not, nat_le, nat_lt, List, [], length, Option, None, Some, is_some, Result, Ok, Err, ⊤, if◌then◌else◌}
+use Rattle.std.specs.Prelude.{◌≡◌, ℕ, zero, suc, ◌+◌, Bool, true, false, ◌&&◌, not, nat_le, nat_lt, List, [], ◌∷◌, length, Option, None, Some, is_some, Result, Ok, Err, ⊤, if◌then◌else◌}
 use Rattle.sb_call.specs.declared.arguments.Arg.{Arg}
 use Rattle.sb_call.specs.declared.replies.Answer.{Answer as HostAnswer}
 use Rattle.sb_call.specs.declared.replies.Reply.{Reply as HostReply}
@@ -14,13 +14,12 @@ use Rattle.sb_book.specs.Histories.{reply_of, space_after}
 use Rattle.sb_book.specs.Rulings.{args_of}
 use Rattle.sb_book.specs.declared.decisions.Decision.{Decision}
 use Rattle.sb_actor.specs.Acts.{state_word, ready, abandoned}
-use Rattle.sb_actor.specs.Observations.{Observation, Answered}
+use Rattle.sb_actor.specs.Observations.{Observation, Answered, Done, Value}
 use Rattle.sb_actor.specs.WorkerStages.{WorkerAt, WorkerStage, Look, Count, End, Copy, Take, Answer, Give, Reply, Ack}
 use Rattle.sb_actor.specs.WorkerTable.{worker_plan, worker_after}
-use Rattle.sb_actor.specs.WordMoves.{worker_loads, worker_moves_left, worker_stores, worker_values}
-use Rattle.sb_actor.specs.WordSteps.{worker_load, worker_store}
 use Rattle.sb_actor.specs.declared.acts.Act.{Act}
 use Rattle.sb_actor.specs.declared.acts.Act.TheVariants as act
+use Rattle.sb_host.specs.Moves.{is_copying_at, moves_left, place_in_reply, values_left}
 use Rattle.sb_host.specs.Replies.{host_reply, takes_space}
 use Rattle.sb_host.specs.declared.host_workers.Undecided.{Undecided}
 use Rattle.sb_host.specs.declared.host_workers.Undecided.TheVariants.{Unfit, NoMemory}
@@ -84,27 +83,45 @@ after_step h seen =
 
 -- how many of its next steps move one word of the block or of the reply each
 abbrev pub host_moves : HostAt → ℕ
-host_moves h = if is_taking_over h then 0 else worker_moves_left h.worker.stage
+host_moves h = if is_taking_over h then 0 else moves_left h.worker.stage
 
--- this many of its next steps load a word of the block
+-- its next step loads a word of the block into the copy
+abbrev pub is_copying : HostAt → Bool
+is_copying h = not (is_taking_over h) && is_copying_at h.worker.stage
+
+-- this many of its next steps do
 abbrev pub can_load : HostAt → ℕ → Bool
-can_load h count = not (is_taking_over h) && is_some (worker_load h.worker) && nat_le count (worker_moves_left h.worker.stage)
+can_load h count = is_copying h && nat_le count (moves_left h.worker.stage)
+
+-- the place in the reply of the word that its next step stores, if it stores one
+abbrev pub place_to_store : HostAt → Option ℕ
+place_to_store h = if is_taking_over h then None else place_in_reply h.worker.stage
 
 -- this many of its next steps store a word of the reply
 abbrev pub can_store : HostAt → ℕ → Bool
-can_store h count = not (is_taking_over h) && is_some (worker_store h.worker) && nat_le count (worker_moves_left h.worker.stage)
+can_store h count = is_some (place_to_store h) && nat_le count (moves_left h.worker.stage)
 
--- after loads that found these values
+-- after steps that found these values, one after another
+abbrev pub after_values : HostAt → List ℕ → HostAt
+after_values h [] = h
+after_values h (value ∷ values) = after_values (after_step h (Value value)) values
+
+-- after this many steps that found nothing
+abbrev pub after_dones : HostAt → ℕ → HostAt
+after_dones h zero = h
+after_dones h (suc n) = after_dones (after_step h Done) n
+
+-- after loads in a row that found these values
 abbrev pub after_loads : HostAt → List ℕ → HostAt
-after_loads h values = if can_load h (length values) then record h { worker = worker_loads h.worker values } else h
+after_loads h values = if can_load h (length values) then after_values h values else h
 
--- after this many stores
+-- after this many stores in a row
 abbrev pub after_stores : HostAt → ℕ → HostAt
-after_stores h count = if can_store h count then record h { worker = worker_stores h.worker count } else h
+after_stores h count = if can_store h count then after_dones h count else h
 
 -- the values that its next steps store
 abbrev pub values_to_store : HostAt → List ℕ
-values_to_store h = if can_store h 0 then worker_values h.worker.stage (worker_moves_left h.worker.stage) else []
+values_to_store h = if is_taking_over h then [] else values_left h.worker.stage
 
 -- there is a copy to answer, and nothing is decided of it yet; and there is a policy of this number
 abbrev pub can_decide : HostAt → ℕ → ℕ → Bool

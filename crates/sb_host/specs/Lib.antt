@@ -1,4 +1,5 @@
 pub mod Replies
+pub mod Moves
 pub mod HostWorkers
 pub mod Calls
 pub mod Literals

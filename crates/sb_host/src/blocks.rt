@@ -3,7 +3,7 @@ ghost use Rattle.std.specs.Prelude.{◌≡◌, IfErr, IfOk, OnOk, true};
 ghost use Rattle.sb_block.specs.Blocks.{block, encodes};
 ghost use Rattle.sb_host.specs.Blocks.{IsNoBlock, copy_of};
 
-use sb_block::{BlockCopy, MOST_WORDS, Words, encode};
+use sb_block::{BlockCopy, MAX_WORDS, Words, encode};
 use sb_call::{Arg, CallTag, fits};
 use thiserror::Error;
 
@@ -24,7 +24,7 @@ pub enum NoBlock {
 pub fn copy_of(count: u64, end: u64, words: &[u64]) -> Option<BlockCopy>
     ensures { result ≡ copy_of count end words.now }
 {
-    if words.len() as u64 > MOST_WORDS {
+    if words.len() as u64 > MAX_WORDS {
         return None;
     }
     let mut copied = Words::empty();

@@ -1,5 +1,5 @@
 // The worker of a target, for a host that performs what is granted.
-ghost use Rattle.std.specs.Prelude.{◌≡◌, ◌<◌, ◌≤◌, length, true, false, Some, None, not, is_some, option_map, IfErr, IfOk, OnOk, OnErr};
+ghost use Rattle.std.specs.Prelude.{◌≡◌, ◌<◌, ◌≤◌, length, true, false, Some, None, not, is_some, option_map, IfErr, IfOk, IfSome, OnOk, OnErr};
 ghost use Rattle.sb_rule.specs.Verdicts.{policy_at};
 ghost use Rattle.sb_block.specs.Faults.{fault};
 ghost use Rattle.sb_book.specs.Decisions.{decision_of, is_fitting};
@@ -7,14 +7,18 @@ ghost use Rattle.sb_book.specs.Histories.{space_after};
 ghost use Rattle.sb_book.specs.Rulings.{ruling_of};
 ghost use Rattle.sb_actor.specs.Acts.{observation};
 ghost use Rattle.sb_host.specs.Replies.{IsSpaceAnswer, takes_space};
-ghost use Rattle.sb_host.specs.HostWorkers.{host_start, host_adopt, host_plan, is_answer, is_taking_over, copy_to_answer, after_step, host_moves, can_load, can_store, after_loads, after_stores, values_to_store, can_decide, IsUnfit, LacksMemory, after_decision, granted_args, asked, can_reply, after_answer, after_performing, space_after_performing, takes_space_for};
+ghost use Rattle.sb_host.specs.Moves.{left_after, place_of};
+ghost use Rattle.sb_host.specs.HostWorkers.{host_start, host_adopt, host_plan, is_answer, is_taking_over, copy_to_answer, after_step, host_moves, is_copying, can_load, can_store, place_to_store, after_loads, after_stores, values_to_store, can_decide, IsUnfit, LacksMemory, after_decision, granted_args, asked, can_reply, after_answer, after_performing, space_after_performing, takes_space_for};
 
 use crate::laws::performing_is_answering;
 use crate::policy_sets::PolicySet;
 use crate::replies::host_reply;
 use sb_actor::{ABANDONED, Act, Observed, READY, WorkerState};
 use sb_base::NoMemory;
-use sb_block::{BlockCopy, BlockRefused, Call, decode, faultless_copies_fit};
+use sb_block::{
+    BlockCopy, BlockRefused, Call, REPLY_LENGTH, decode, faultless_copies_fit, offset_of,
+    reply_words,
+};
 use sb_book::{Decision, Ruling, decide};
 use sb_call::{Answer, Arg, Extended};
 use sb_kernel::Kernel;
@@ -44,23 +48,52 @@ pub struct HostWorker {
     // How many channels it has taken over, from the first.
     taken_over: u32,
     decision: Option<Decision>,
+    // How many words are left to copy, 0 if its next step copies none.
+    left: u32,
+    // The words of the reply, from the answer until they are stored.
+    reply: [u64; 12],
 }
 
 impl Model for HostWorker {
-    ghost use Rattle.std.specs.Prelude.{◌≡◌, true};
+    ghost use Rattle.std.specs.Prelude.{◌≡◌, length, true};
     ghost use Rattle.sb_host.specs.HostWorkers.{HostAt, is_fitting_if_decided};
+    ghost use Rattle.sb_host.specs.Moves.{IsReplyKept, words_to_copy};
 
     ghost Value = { HostAt };
 
     ghost view = { λ h. record { worker = h.worker; taken_over = h.taken_over; decision = h.decision } };
 
-    ghost invariant = { λ h. is_fitting_if_decided h.decision ≡ true };
+    ghost invariant = { λ h. (is_fitting_if_decided h.decision ≡ true) × (h.left ≡ words_to_copy h.worker.stage) × (length h.reply ≡ 12)
+        × IsReplyKept h.worker.stage h.reply };
 }
 
 fn is_answer(act: Act) -> bool
     ensures { result ≡ is_answer act }
 {
     matches!(act, Act::Answer)
+}
+
+// How many words are left to copy after a step that found this, by how many were left before it and by the step that comes next.
+fn left_after(left: u32, next: Act, observed: Observed) -> u32
+    ensures { result ≡ left_after left next (observation observed) }
+{
+    if left > 0 {
+        return left - 1;
+    }
+    match (next, observed) {
+        (Act::Load { word, .. }, Observed::Value(value)) if word.at == 1 => offset_of(value) as u32,
+        _ => 0,
+    }
+}
+
+// The place in the reply of the word that a step of a worker stores.
+fn place_of(act: Act) -> Option<u32>
+    ensures { result ≡ place_of act }
+{
+    match act {
+        Act::Store { word, .. } => Some(word.at.saturating_sub(4)),
+        _ => None,
+    }
 }
 
 impl HostWorker {
@@ -74,6 +107,8 @@ impl HostWorker {
             worker: WorkerState::new(0, channels),
             taken_over: channels,
             decision: None,
+            left: 0,
+            reply: [0; REPLY_LENGTH],
         }
     }
 
@@ -88,6 +123,8 @@ impl HostWorker {
             worker: WorkerState::new(0, channels),
             taken_over: 0,
             decision: None,
+            left: 0,
+            reply: [0; REPLY_LENGTH],
         }
     }
 
@@ -139,7 +176,7 @@ impl HostWorker {
     /// Goes on by what its next step found: a load or an exchange its value, a store and the turn given back nothing, and the turn whether
     /// it was taken. False exactly if its next step is the answer; then nothing changes.
     #[inline(always)]
-    #[tactic(auto, using(crate::proofs::AnswerLemmas::no_answer))]
+    #[tactic(auto, using(crate::proofs::AnswerLemmas::no_answer, crate::proofs::MoveLemmas::left_kept, crate::proofs::MoveLemmas::reply_kept))]
     pub fn after(&mut self, observed: Observed) -> bool
         ensures done { result ≡ not (is_some (copy_to_answer self.old)) }
         ensures after { self.new ≡ after_step self.old (observation observed) }
@@ -151,7 +188,9 @@ impl HostWorker {
         if self.is_answering() {
             return false;
         }
+        self.worker.establish_sound();
         self.worker.after(observed);
+        self.left = left_after(self.left, self.worker.plan(), observed);
         true
     }
 
@@ -162,14 +201,40 @@ impl HostWorker {
         self.worker.channel()
     }
 
+    // The place in the reply of the word that its next step stores.
+    #[tactic(auto, using(crate::proofs::MoveLemmas::place_planned, crate::proofs::MoveLemmas::place_within))]
+    fn place_to_store(&self) -> Option<u32>
+        ensures place { result ≡ place_to_store self.now }
+        ensures within { IfSome result (λ place. place < 12) }
+    {
+        if self.is_taking_over() {
+            return None;
+        }
+        self.worker.establish_sound();
+        place_of(self.worker.plan())
+    }
+
     /// How many of its next steps move one word of the block or of the reply each, whatever they find.
+    #[tactic(auto, using(crate::proofs::MoveLemmas::moves_placed, crate::proofs::MoveLemmas::moves_copied))]
     pub fn moves(&self) -> u32
         ensures { result ≡ host_moves self.now }
     {
         if self.is_taking_over() {
             return 0;
         }
-        self.worker.moves_left()
+        match self.place_to_store() {
+            Some(place) => 12 - place,
+            None => self.left,
+        }
+    }
+
+    // Whether its next step loads a word of the block into the copy.
+    #[tactic(auto, using(crate::proofs::MoveLemmas::copying_left))]
+    fn is_copying(&self) -> bool
+        ensures { result ≡ is_copying self.now }
+    {
+        self.worker.establish_sound();
+        !self.is_taking_over() && self.left > 0
     }
 
     /// Goes on from loads of the next words of the block by their values, each loaded by one atomic step, in order. False exactly if its
@@ -178,39 +243,41 @@ impl HostWorker {
         ensures done { result ≡ can_load self.old (length values.now) }
         ensures after { self.new ≡ after_loads self.old values.now }
     {
-        if self.is_taking_over()
-            || self.worker.word_to_load().is_none()
-            || values.len() > self.worker.moves_left() as usize
-        {
+        if !self.is_copying() || values.len() > self.moves() as usize {
             return false;
         }
-        self.worker.after_loads(values);
+        for value in values {
+            self.after(Observed::Value(*value));
+        }
         true
     }
 
     /// The values of the reply that its next steps store, one each. Empty if its next step stores none.
+    #[tactic(auto, using(crate::proofs::MoveLemmas::values_kept, crate::proofs::MoveLemmas::no_values))]
     pub fn values(&self) -> &[u64]
         ensures { result.now ≡ values_to_store self.now }
     {
-        if self.is_taking_over() || self.worker.word_to_store().is_none() {
-            return &[];
+        match self.place_to_store() {
+            Some(place) => &self.reply[place as usize..],
+            None => &[],
         }
-        self.worker.values_to_store(self.worker.moves_left())
     }
 
     /// Goes on from this many stores of the next words of the reply. False exactly if its next steps are not that many stores of the
     /// reply; then nothing changes.
+    #[tactic(auto, using(crate::proofs::MoveLemmas::one_done))]
     pub fn stored(&mut self, count: u32) -> bool
         ensures done { result ≡ can_store self.old count }
         ensures after { self.new ≡ after_stores self.old count }
     {
-        if self.is_taking_over()
-            || self.worker.word_to_store().is_none()
-            || count > self.worker.moves_left()
-        {
+        if self.place_to_store().is_none() || count > self.moves() {
             return false;
         }
-        self.worker.after_stores(count);
+        let mut left = count;
+        while left > 0 {
+            self.after(Observed::Done);
+            left -= 1;
+        }
         true
     }
 
@@ -282,7 +349,7 @@ impl HostWorker {
 
     /// Goes on from the answer by the reply to what was decided: the host's answer if the call is performed, and else what the decision
     /// says. False exactly if there is no copy to answer or nothing is decided of it; then nothing changes.
-    #[tactic(auto, using(crate::proofs::AnswerLemmas::marked_answer, crate::proofs::AnswerLemmas::answer_is_planned))]
+    #[tactic(auto, using(crate::proofs::AnswerLemmas::marked_answer, crate::proofs::AnswerLemmas::answer_is_planned, crate::proofs::MoveLemmas::reply_taken))]
     pub fn reply(&mut self, answer: &Answer) -> bool
         ensures done { result ≡ can_reply self.old }
         ensures after { self.new ≡ after_answer self.old answer.now }
@@ -295,6 +362,7 @@ impl HostWorker {
         };
         let reply = host_reply(copy.mark(), decision, answer);
         self.worker.accept_reply(&reply);
+        self.reply = reply_words(&reply);
         self.decision = None;
         true
     }
@@ -304,7 +372,7 @@ impl HostWorker {
     ///
     /// # Errors
     /// `NoMemory` if the call grants a handle or renames, and the namespace had none for that; then nothing changes.
-    #[tactic(auto, using(crate::proofs::AnswerLemmas::marked_answer, crate::proofs::AnswerLemmas::answer_is_planned))]
+    #[tactic(auto, using(crate::proofs::AnswerLemmas::marked_answer, crate::proofs::AnswerLemmas::answer_is_planned, crate::proofs::MoveLemmas::reply_taken))]
     pub fn perform(&mut self, kernel: &mut Kernel, target: u32) -> Result<bool, NoMemory>
         ensures done { IfOk result (λ done. done ≡ can_reply self.old) }
         ensures after { OnOk result (self.new ≡ after_performing self.old kernel.old target) }
@@ -323,6 +391,7 @@ impl HostWorker {
         let answer = answer_in(kernel, target, decision)?;
         let reply = host_reply(copy.mark(), decision, &answer);
         self.worker.accept_reply(&reply);
+        self.reply = reply_words(&reply);
         self.decision = None;
         Ok(true)
     }

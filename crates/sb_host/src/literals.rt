@@ -10,7 +10,7 @@ ghost use Rattle.sb_rule.specs.WellMade.{is_policy_text};
 ghost use Rattle.sb_host.specs.Literals.{has_string_literal, has_pattern_literal, literal_text, has_star, IsNoLiteral, IsStringLiteral, IsPatternLiteral};
 
 use sb_base::{NoMemory, Refused, is_well_formed_utf16};
-use sb_rule::{MOST_UNITS, literals_match_the_same, texts_and_patterns};
+use sb_rule::{MAX_UNITS, literals_match_the_same, texts_and_patterns};
 use sb_text::quoted_strings_are_read;
 use std::alloc::Global;
 use thiserror::Error;
@@ -43,7 +43,7 @@ fn are_text_units(units: &[u16]) -> bool
 fn is_policy_text(units: &[u16]) -> bool
     ensures { result ≡ is_policy_text units.now }
 {
-    units.len() <= MOST_UNITS && are_text_units(units) && is_well_formed_utf16(units)
+    units.len() <= MAX_UNITS && are_text_units(units) && is_well_formed_utf16(units)
 }
 
 // What is written of units between quotes.

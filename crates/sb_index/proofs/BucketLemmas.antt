@@ -1,10 +1,11 @@
 -- Bits of the buckets that strings have and rules need.
+use Rattle.std.proofs.Math.Bool.{or-false}
 use Rattle.std.specs.Int.{bit_at, bit_not, trailing_zeros, w64}
 use Rattle.std.specs.Int.RustNames.{bit_and, bit_or}
 use Rattle.std.specs.List.{list_all, list_any}
 use Rattle.std.specs.Prelude.{slice_index_or}
 use Rattle.std.proofs.Common.{◌≡◌, ◌≢◌, ◌∙◌, ◌<◌, ◌+◌, ◌%◌, ℕ, Bool, true, false, cond, List, [], ◌∷◌, ◌++◌, ◌&&◌, ◌||◌, ◌≤◌, ◌*◌, ◌-◌, ◌^◌, eqb, ltb, max, min, not, length, take, refl, ap, sym, arith}
-use Rattle.std.proofs.lemmas.Bool.{eqb-true, false≢true, le-ltb, lt-ltb}
+use Rattle.std.proofs.lemmas.Bool.{eqb-true, false≢true, le-ltb, lt-ltb, eq-eqb}
 use Rattle.std.proofs.lemmas.List.{take_more}
 use Rattle.std.proofs.lemmas.List.Folds.{list_all-append, list_any-append}
 use Rattle.std.proofs.lemmas.Bool.Decides.{nat_tests}
@@ -15,7 +16,7 @@ use Rattle.sb_base.specs.Wide.{folded}
 use Rattle.sb_rule.specs.declared.conditions.Cond.{Cond}
 use Rattle.sb_index.specs.Questions.{cond_may_pass, is_in_bucket, is_cell_in_bucket}
 use Rattle.sb_index.specs.declared.questions.Question.TheVariants.{Without}
-use Rattle.sb_index.proofs.SetLemmas.{bit_set, differ, equal_is, or_false, with_bit}
+use Rattle.sb_index.proofs.SetLemmas.{bit_set, differ, with_bit}
 use Rattle.sb_index.specs.Sets.{has}
 
 pub unit_put : (bits unit f bucket : ℕ) → f ≡ folded unit → bit_at (with_bit bits (f % 64)) bucket ≡ cond (is_in_bucket bucket unit) 1 (bit_at bits bucket)
@@ -66,7 +67,7 @@ not_needed param wanted b other = sym (ap bit other)
     bit t = cond (cond t b true) 0 1
 
 pub needed : (param wanted bit : ℕ) (b : Bool) → param ≡ wanted → bit ≡ cond b 1 0 → bit ≡ cond (cond (eqb param wanted) (not b) true) 0 1
-needed param wanted bit b same e = e ∙ by b ∙ sym (ap turned (equal_is param wanted same))
+needed param wanted bit b same e = e ∙ by b ∙ sym (ap turned (eq-eqb param wanted same))
   where
     turned : Bool → ℕ
     turned t = cond (cond t (not b) true) 0 1
@@ -151,7 +152,7 @@ clear_put old new e q bits s bucket is clear = is ∙ ap (λ b. old || b) (by e 
     by false b t = refl
 
 pub set_passed : (old e : Bool) (bits s bucket : ℕ) → bit_at bits bucket ≡ 1 → old ≡ (old || ((e && eqb s bucket) && eqb (bit_at bits s) 0))
-set_passed old e bits s bucket set = sym (ap (λ b. old || b) (by e (eqb s bucket) refl) ∙ or_false old)
+set_passed old e bits s bucket set = sym (ap (λ b. old || b) (by e (eqb s bucket) refl) ∙ or-false old)
   where
     by : (e b : Bool) → eqb s bucket ≡ b → ((e && b) && eqb (bit_at bits s) 0) ≡ false
     by true true t = ap (λ x. eqb (bit_at bits x) 0) (eqb-true s bucket t) ∙ ap (λ n. eqb n 0) set
@@ -208,7 +209,7 @@ rule_bucketed old new e passes mine bits s m is h bit =
     by false p = refl
 
 pub none_bucketed : (old mine e : Bool) → mine ≡ false → old ≡ (old || (mine && e))
-none_bucketed old mine e none = sym (ap (λ b. old || (b && e)) none ∙ or_false old)
+none_bucketed old mine e none = sym (ap (λ b. old || (b && e)) none ∙ or-false old)
 
 -- bits of all rules
 pub rule_needed : (bits more bucket : ℕ) (passes : Bool) → bit_at more bucket ≡ cond passes 0 1 → bit_at (bit_or bits more) bucket ≡ 0

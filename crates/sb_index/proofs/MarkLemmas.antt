@@ -1,21 +1,14 @@
 -- Rules in their slots.
+use Rattle.std.proofs.Math.Bool.{or-false, and-true, and-false}
 use Rattle.std.proofs.Common.{◌≡◌, ◌∙◌, ◌≤◌, ◌<◌, ◌+◌, ◌-◌, ℕ, zero, suc, Bool, true, false, List, [], ◌∷◌, ◌++◌, ◌&&◌, ◌||◌, eqb, ltb, length, refl, ap, sym, arith}
 use Rattle.std.specs.Prelude.{nat_le, slice_index_or, slice_set}
-use Rattle.std.proofs.lemmas.Bool.{eqb-true, le-ltb, leb-false, leb-true, lt-ltb, ltb-true, ne_eqb}
+use Rattle.std.proofs.lemmas.Bool.{eqb-true, le-ltb, leb-false, leb-true, lt-ltb, ltb-true, ne_eqb, ltb-false}
 use Rattle.std.proofs.lemmas.Bool.Decides.{nat_tests}
 use Rattle.std.proofs.lemmas.List.{get_or_append_left, get_or_default, get_or_push, get_or-set_other, get_or-set_same}
-use Rattle.sb_index.proofs.SetLemmas.{differ, not_less, or_false}
+use Rattle.sb_index.proofs.SetLemmas.{differ}
 use Rattle.sb_index.specs.Marks.{AreFresh, is_marked, up_to}
 use Rattle.sb_index.specs.Sets.{has}
 use Rattle.sb_index.specs.declared.marks.Marks.{Marks}
-
-and_true : (b : Bool) → (b && true) ≡ b
-and_true true = refl
-and_true false = refl
-
-and_false : (b : Bool) → (b && false) ≡ false
-and_false true = refl
-and_false false = refl
 
 -- a number that is put into one of the sets
 abbrev pub IsPut : List (List ℕ) → List (List ℕ) → ℕ → ℕ → Type 0
@@ -31,14 +24,14 @@ one_put sets slot number set h put s k = by (eqb s slot) refl
         let same : s ≡ slot = eqb-true s slot t in
         ap (λ x. has (slice_index_or (slice_set sets slot set) x []) k) same ∙ ap (λ w. has w k) (get_or-set_same sets slot set [] h) ∙ put k
         ∙ ap (λ x. has (slice_index_or sets x []) k || eqb k number) (sym same)
-        ∙ ap (λ b. has (slice_index_or sets s []) k || b) (sym (and_true (eqb k number)))
+        ∙ ap (λ b. has (slice_index_or sets s []) k || b) (sym (and-true (eqb k number)))
     by false t =
         ap (λ w. has w k) (get_or-set_other sets slot s set [] (differ s slot t))
-        ∙ sym (or_false (has (slice_index_or sets s []) k)) ∙ ap (λ b. has (slice_index_or sets s []) k || b) (sym (and_false (eqb k number)))
+        ∙ sym (or-false (has (slice_index_or sets s []) k)) ∙ ap (λ b. has (slice_index_or sets s []) k || b) (sym (and-false (eqb k number)))
 
 -- the sets up to one
 pub up_put : (old new : List (List ℕ)) (at number : ℕ) → IsPut old new at number → (n : ℕ) (k : ℕ) → up_to new n k ≡ (up_to old n k || (eqb k number && ltb at n))
-up_put old new at number put zero k = sym (ap (λ b. eqb k number && b) (none at) ∙ and_false (eqb k number))
+up_put old new at number put zero k = sym (ap (λ b. eqb k number && b) (none at) ∙ and-false (eqb k number))
   where
     none : (at : ℕ) → ltb at 0 ≡ false
     none at = le-ltb at 0 (omega arith)
@@ -129,9 +122,9 @@ run_put old new slots first last number points begins ends many still inside fre
         ∙ nothing p (f && l)
         ∙ ap (λ x. (p || (x && up_to old.ends.items (slots - s) k)) || (f && l)) (sym (fresh (suc s) k le).1)
     parts p b c false t f l =
-        ap (λ x. p || (x && (up_to old.ends.items (slots - s) k || false))) (or_false (up_to old.begins.items (suc s) k))
-        ∙ ap (λ x. p || (up_to old.begins.items (suc s) k && x)) (or_false (up_to old.ends.items (slots - s) k))
-        ∙ sym (or_false (p || (up_to old.begins.items (suc s) k && up_to old.ends.items (slots - s) k)))
+        ap (λ x. p || (x && (up_to old.ends.items (slots - s) k || false))) (or-false (up_to old.begins.items (suc s) k))
+        ∙ ap (λ x. p || (up_to old.begins.items (suc s) k && x)) (or-false (up_to old.ends.items (slots - s) k))
+        ∙ sym (or-false (p || (up_to old.begins.items (suc s) k && up_to old.ends.items (slots - s) k)))
 
 -- what the sets up to one more have together
 pub union_more : (sets : List (List ℕ)) (i : ℕ) (one set new : List ℕ) → one ≡ slice_index_or sets i one → i < length sets
@@ -150,7 +143,7 @@ sets_pushed P sets set n many before here slot k h = by (ltb slot n) refl
         let inside = ltb-true slot n t in
         ap (λ s. has s k) (get_or_append_left sets (set ∷ []) [] slot (omega (arith, inside, many))) ∙ before slot k inside
     by false t =
-        let last : slot ≡ n = omega (arith, h, not_less slot n t) in
+        let last : slot ≡ n = omega (arith, h, ltb-false slot n t) in
         ap (λ s. has s k) (get_or_push sets set [] slot (many ∙ sym last)) ∙ here k ∙ ap (λ m. P m k) (sym last)
 
 -- the set of a slot

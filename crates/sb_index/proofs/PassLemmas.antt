@@ -2,7 +2,7 @@
 use Rattle.std.proofs.Common.{◌≡◌, ◌∙◌, ◌≤◌, ◌%◌, ℕ, Bool, true, false, not, cond, List, [], ◌∷◌, ◌&&◌, ◌||◌, drop, eqb, refl, ap, sym, arith}
 use Rattle.std.specs.Prelude.{nat_eq, nat_le}
 use Rattle.std.specs.List.{list_all, list_any}
-use Rattle.std.proofs.lemmas.Bool.{and_parts, and_from, eqb-true, false≢true, le-leb, leb-true}
+use Rattle.std.proofs.lemmas.Bool.{and_parts, and_from, eqb-true, false≢true, le-leb, leb-true, or_right, or_from, not-true}
 use Rattle.sb_base.specs.Wide.{folded, is_same}
 use Rattle.sb_call.specs.Arguments.{arg_at}
 use Rattle.sb_call.specs.Tags.{number_of}
@@ -23,10 +23,6 @@ use Rattle.sb_index.specs.declared.questions.Question.{Question}
 use Rattle.sb_index.specs.declared.questions.Question.TheVariants.{Within, Without}
 use Rattle.sb_index.proofs.FrontLemmas.{past_lies, same_front}
 
-either_later : (a b : Bool) → b ≡ true → (a || b) ≡ true
-either_later true b h = refl
-either_later false b h = h
-
 -- numbers that lie between two others and between two more
 overlap : (low high first last k : ℕ) → low ≤ k → k ≤ high → nat_le first k ≡ true → nat_le k last ≡ true → (nat_le low last && nat_le first high) ≡ true
 overlap low high first last k l h f g =
@@ -41,7 +37,7 @@ one_lies (n ∷ numbers) value first last h m = by (nat_eq n value) refl h (λ h
     by : (b : Bool) → nat_eq n value ≡ b → (b || list_any (λ n. nat_eq n value) numbers) ≡ true
         → (list_any (λ n. nat_eq n value) numbers ≡ true → list_any (lies first last) numbers ≡ true) → (lies first last n || list_any (lies first last) numbers) ≡ true
     by true e h later = ap (λ b. b || list_any (lies first last) numbers) (ap (lies first last) (eqb-true n value e) ∙ m)
-    by false e h later = either_later (lies first last n) (list_any (lies first last) numbers) (later h)
+    by false e h later = or_right (lies first last n) (list_any (lies first last) numbers) (later h)
 
 number_lies : (test : Test) (value first last : ℕ) → test_holds test (arg.Num value) ≡ true → lies first last value ≡ true → number_may_lie test first last ≡ true
 number_lies (OneOf numbers) value first last h m = one_lies numbers value first last h m
@@ -94,9 +90,6 @@ or_later : (a b : Bool) → (a || b) ≡ false → b ≡ false
 or_later false b h = h
 or_later true b h = absurd (false≢true (sym h))
 
-or_none : (a b : Bool) → a ≡ false → b ≡ false → (a || b) ≡ false
-or_none a b h k = (λ i. h i || k i)
-
 equal_lacks : (bucket : ℕ) (units text : List ℕ) → is_same units text ≡ true → Lacks bucket units → Lacks bucket text
 equal_lacks bucket [] [] h l = refl
 equal_lacks bucket [] (t ∷ text) h l = absurd (false≢true h)
@@ -104,7 +97,7 @@ equal_lacks bucket (u ∷ units) [] h l = absurd (false≢true h)
 equal_lacks bucket (u ∷ units) (t ∷ text) h l =
     let p = and_parts (nat_eq (folded u) (folded t)) (is_same units text) h in
     let same : folded u ≡ folded t = eqb-true (folded u) (folded t) p.0 in
-    or_none (is_in_bucket bucket t) (list_any (is_in_bucket bucket) text)
+    or_from (is_in_bucket bucket t) (list_any (is_in_bucket bucket) text)
     (ap (λ f. eqb (f % 64) bucket) (sym same) ∙ or_left (is_in_bucket bucket u) (list_any (is_in_bucket bucket) units) l)
     (equal_lacks bucket units text p.1 (or_later (is_in_bucket bucket u) (list_any (is_in_bucket bucket) units) l))
 
@@ -131,7 +124,7 @@ like_lacks bucket (Lit w ∷ cells) [] h l = absurd (false≢true h)
 like_lacks bucket (Lit w ∷ cells) (u ∷ units) h l =
     let p = and_parts (eqb (folded u) (folded w)) (matches cells units) h in
     let same : folded u ≡ folded w = eqb-true (folded u) (folded w) p.0 in
-    or_none (is_in_bucket bucket w) (list_any (is_cell_in_bucket bucket) cells)
+    or_from (is_in_bucket bucket w) (list_any (is_cell_in_bucket bucket) cells)
     (ap (λ f. eqb (f % 64) bucket) (sym same) ∙ or_left (is_in_bucket bucket u) (list_any (is_in_bucket bucket) units) l)
     (like_lacks bucket cells units p.1 (or_later (is_in_bucket bucket u) (list_any (is_in_bucket bucket) units) l))
 
@@ -143,10 +136,6 @@ bucket_lacks (Equal text) (arg.Num value) bucket h l = absurd (false≢true h)
 bucket_lacks (Equal text) (arg.Str units) bucket h l = equal_lacks bucket units text h l
 bucket_lacks (Like cells) (arg.Num value) bucket h l = absurd (false≢true h)
 bucket_lacks (Like cells) (arg.Str units) bucket h l = like_lacks bucket cells units h l
-
-not_is : (b : Bool) → not b ≡ true → b ≡ false
-not_is false h = refl
-not_is true h = absurd (false≢true h)
 
 -- a test that holds passes, if it is of the parameter that is asked about
 if_same : (a b : ℕ) (x : Bool) → (a ≡ b → x ≡ true) → cond (eqb a b) x true ≡ true
@@ -167,7 +156,7 @@ test_passes (Within (Front wanted skip) first last) param test args h m =
 test_passes (Without wanted bucket) param test args h m =
     if_same param wanted (not (needs_bucket test bucket))
     (λ e. ap not (bucket_lacks test (arg_at args param) bucket h
-    (ap (λ p. list_any (is_in_bucket bucket) (units_in (arg_at args p))) e ∙ not_is (list_any (is_in_bucket bucket) (units_in (arg_at args wanted))) m)))
+    (ap (λ p. list_any (is_in_bucket bucket) (units_in (arg_at args p))) e ∙ not-true (list_any (is_in_bucket bucket) (units_in (arg_at args wanted))) m)))
 
 cond_passes : (question : Question) (c : Cond) (args : List Arg) → cond_holds c args ≡ true → meets question args ≡ true → cond_may_pass question c ≡ true
 cond_passes question c args h m = by c.negated h

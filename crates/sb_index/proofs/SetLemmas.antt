@@ -1,9 +1,10 @@
 -- Bits of sets.
+use Rattle.std.proofs.Math.Bool.{or-false}
 use Rattle.std.specs.Int.{bit_at, trailing_zeros, w64}
 use Rattle.std.specs.Int.RustNames.{bit_and, bit_or}
 use Rattle.std.specs.Prelude.{slice_index_or, slice_set}
 use Rattle.std.proofs.Common.{◌≡◌, ◌≢◌, ◌∙◌, ◌==◌, Bool, true, false, ◌≤◌, ◌<◌, ◌+◌, ◌-◌, ◌*◌, ◌/◌, ◌%◌, ◌^◌, ℕ, zero, suc, min, ltb, List, [], ◌∷◌, length, ◌&&◌, ◌||◌, max, refl, ap, sym, arith, eqb}
-use Rattle.std.proofs.lemmas.Bool.{eq-eqb, eqb-false, eqb-true, false≢true, ltb-false, ltb-true}
+use Rattle.std.proofs.lemmas.Bool.{eqb-false, eqb-true, false≢true, ltb-false, ltb-true}
 use Rattle.std.proofs.lemmas.List.{get_or-set_same, get_or-set_other, get_or_past}
 use Rattle.std.proofs.lemmas.Nat.Bits.{bit_at-lt, bit_at_and, bit_at_or, bit_at_ones, bit_at_set_same, bit_at_set_other, bit_at-zero, bit_at_above, bit_at-trailing_zeros, shr_and_one}
 use Rattle.std.proofs.lemmas.Nat.{shr-shr}
@@ -135,25 +136,12 @@ with_bit n i = bit_or n (1 * 2 ^ i % 18446744073709551616)
 pub bit_set : (n i : ℕ) → i < 64 → bit_at (with_bit n i) i ≡ 1
 bit_set n i h = bit_at_set_same w64 n i h
 
-pub equal_is : (a b : ℕ) → a ≡ b → eqb a b ≡ true
-equal_is a b e = eq-eqb a b e
-
 pub differ : (a b : ℕ) → eqb a b ≡ false → a ≢ b
 differ a b t e = eqb-false a b t e
-
-less : (a b : ℕ) → ltb a b ≡ true → a < b
-less a b t = ltb-true a b t
-
-pub not_less : (a b : ℕ) → ltb a b ≡ false → b ≤ a
-not_less a b t = ltb-false a b t
 
 or_true : (b : Bool) → (b || true) ≡ true
 or_true true = refl
 or_true false = refl
-
-pub or_false : (b : Bool) → (b || false) ≡ b
-or_false true = refl
-or_false false = refl
 
 pub inserted : (words : List ℕ) (n k : ℕ) → n / 64 < length words
     → has (slice_set words (n / 64) (with_bit (slice_index_or words (n / 64) 0) (n % 64))) k ≡ (has words k || eqb k n)
@@ -181,7 +169,7 @@ inserted words n k h = by (eqb k n) refl
     by : (b : Bool) → eqb k n ≡ b → has (slice_set words (n / 64) v) k ≡ (has words k || b)
     by true t =
         ap (has (slice_set words (n / 64) v)) (eqb-true k n t) ∙ here ∙ sym (or_true (has words k))
-    by false t = ap (λ m. eqb m 1) (other (differ k n t) (eqb (k / 64) (n / 64)) refl) ∙ sym (or_false (has words k))
+    by false t = ap (λ m. eqb m 1) (other (differ k n t) (eqb (k / 64) (n / 64)) refl) ∙ sym (or-false (has words k))
 
 -- the lowest bit of a word from one place on
 later_bit : (words : List ℕ) (at k : ℕ) → at ≤ k → k < (at / 64 + 1) * 64 → Has words k
@@ -198,15 +186,15 @@ pub none_left : (words : List ℕ) (from at k : ℕ) → slice_index_or words (a
 none_left words from at k none before h g found = by (ltb k at) refl
   where
     by : (b : Bool) → ltb k at ≡ b → ⊥
-    by true t = before k h (less k at t) found
-    by false t = no_bit ⊥ (k - at) (ap (λ n. bit_at n (k - at)) (sym none) ∙ later_bit words at k (not_less k at t) g found)
+    by true t = before k h (ltb-true k at t) found
+    by false t = no_bit ⊥ (k - at) (ap (λ n. bit_at n (k - at)) (sym none) ∙ later_bit words at k (ltb-false k at t) g found)
 
 bit_below : (i word : ℕ) → word < 2 ^ 64 → bit_at word i ≡ 1 → i < 64
 bit_below i word small bit = by (ltb i 64) refl
   where
     by : (b : Bool) → ltb i 64 ≡ b → i < 64
-    by true t = less i 64 t
-    by false t = absurd (omega (arith, bit, bit_at_above word 64 i small (not_less i 64 t)))
+    by true t = ltb-true i 64 t
+    by false t = absurd (omega (arith, bit, bit_at_above word 64 i small (ltb-false i 64 t)))
 
 pub lowest_left : (words : List ℕ) (from at : ℕ) → slice_index_or words (at / 64) 0 < 2 ^ 64 → at < 256
     → 0 < slice_index_or words (at / 64) 0 / 2 ^ (at % 64) → slice_index_or words (at / 64) 0 / 2 ^ (at % 64) < 2 ^ 64
@@ -230,9 +218,9 @@ lowest_left words from at small low some fits before =
   where
     by : (t : ℕ) → ((i : ℕ) → i < t → bit_at (slice_index_or words (at / 64) 0 / 2 ^ (at % 64)) i ≡ 0) → at + t < (at / 64 + 1) * 64
         → (k : ℕ) → from ≤ k → k < at + t → Has words k → (b : Bool) → ltb k at ≡ b → ⊥
-    by t zeros end k h g found true e = before k h (less k at e) found
+    by t zeros end k h g found true e = before k h (ltb-true k at e) found
     by t zeros end k h g found false e =
-        let later : at ≤ k = not_less k at e in
+        let later : at ≤ k = ltb-false k at e in
         let one = later_bit words at k later (omega (arith, g, end)) found in
         let none = zeros (k - at) (omega (arith, later, g)) in
         absurd (omega (arith, one, none))

@@ -5,12 +5,12 @@ use Rattle.std.specs.List.{list_all, list_any}
 use Rattle.sb_rule.specs.declared.conditions.Cond.{Cond}
 use Rattle.sb_index.specs.declared.questions.Feature.{Feature}
 use Rattle.sb_index.specs.declared.questions.Question.TheVariants.{Within}
-use Rattle.std.proofs.lemmas.Bool.{and_from, and_parts, eqb-false, eqb-true, false≢true, le-leb, leb-false, leb-true, lt-leb, lt-ltb, ltb-true, ne_eqb}
+use Rattle.std.proofs.lemmas.Bool.{and_from, and_parts, eqb-false, eqb-true, false≢true, le-leb, leb-false, leb-true, lt-leb, lt-ltb, ltb-true, ne_eqb, ltb-false}
 use Rattle.std.proofs.lemmas.List.{get_or_append_left, get_or_push, length-append, take_more}
 use Rattle.std.proofs.lemmas.List.Folds.{list_any-append}
 use Rattle.sb_index.specs.Bounds.{IsRising, first_of, last_of}
 use Rattle.sb_index.specs.Questions.{cond_may_pass, lies}
-use Rattle.sb_index.proofs.SetLemmas.{differ, not_less}
+use Rattle.sb_index.proofs.SetLemmas.{differ}
 
 -- the first number of a slot that is not the first
 first_after : (bounds : List ℕ) (slot : ℕ) → first_of bounds (suc slot) ≡ slice_index_or bounds slot 0
@@ -46,7 +46,7 @@ rising_pushed bounds n rising above slot h = by (ltb slot (length bounds)) refl
         let bound = get_or_append_left bounds (n ∷ []) 0 slot inside in
         omega (arith, first, bound, rising slot inside)
     by false t =
-        let last : slot ≡ length bounds = omega (arith, h, length-append bounds (n ∷ []), not_less slot (length bounds) t) in
+        let last : slot ≡ length bounds = omega (arith, h, length-append bounds (n ∷ []), ltb-false slot (length bounds) t) in
         let first = first_kept bounds n slot (omega (arith, last)) in
         let bound = get_or_push bounds n 0 slot (sym last) in
         omega (arith, first, bound, above, ap (first_of bounds) last)
@@ -77,7 +77,7 @@ in_order bounds rising slot other n within first last = by (ltb slot other) refl
     by true t =
         let less = ltb-true slot other t in
         absurd (omega (arith, apart bounds rising slot other less within, first, last))
-    by false t = not_less slot other t
+    by false t = ltb-false slot other t
 
 -- a number lies in its slot alone
 pub same_slot : (bounds : List ℕ) → IsRising bounds → (n slot other : ℕ) → other ≤ length bounds → first_of bounds other ≤ n → n ≤ last_of bounds other

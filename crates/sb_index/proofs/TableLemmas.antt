@@ -1,12 +1,12 @@
 -- Tables and buckets keep the rules that hold.
-use Rattle.std.proofs.Common.{◌≡◌, ◌∙◌, ◌≤◌, ◌<◌, ◌+◌, ℕ, zero, suc, not, Bool, true, false, cond, List, [], ◌∷◌, ◌++◌, ◌&&◌, ◌||◌, eqb, ltb, length, take, refl, ap, sym, subst, arith}
+use Rattle.std.proofs.Math.Bool.{or-false}
+use Rattle.std.proofs.Common.{◌≡◌, ◌∙◌, ◌≤◌, ◌<◌, ◌+◌, ℕ, zero, suc, Bool, true, false, cond, List, [], ◌∷◌, ◌++◌, ◌&&◌, ◌||◌, eqb, ltb, length, take, refl, ap, sym, subst, arith}
 use Rattle.std.proofs.lemmas.List.{get_or_append_left, get_or_default, get_or_push, length-append, take_more}
 use Rattle.std.specs.Prelude.{nat_le, slice_index_or}
 use Rattle.sb_call.specs.declared.arguments.Arg.{Arg}
 use Rattle.sb_call.specs.declared.tags.CallTag.{CallTag}
 use Rattle.sb_rule.specs.declared.policies.Rule.{Rule}
-use Rattle.std.proofs.lemmas.Bool.{and_from, and_parts, eq-eqb, le-leb, lt-ltb, ltb-true, ne_eqb}
-use Rattle.sb_index.proofs.SetLemmas.{not_less, or_false}
+use Rattle.std.proofs.lemmas.Bool.{and_from, and_parts, eq-eqb, le-leb, lt-ltb, ltb-true, ne_eqb, ltb-false, not-true, not_from_false}
 use Rattle.sb_index.specs.Bounds.{first_of, last_of}
 use Rattle.sb_index.specs.Laws.{RulesThatHoldPass}
 use Rattle.sb_index.specs.Questions.{is_in_bucket, lies, value_of, may_pass, meets, units_in}
@@ -72,16 +72,16 @@ self_equal j = eq-eqb j j refl
 
 put_more : (question : Question) (mine : List Rule) (r : Rule) (b : Bool) (at : ℕ) (P Q : ℕ → Bool) → at ≡ length mine → Has_passing question mine P
     → P at ≡ false → ((k : ℕ) → Q k ≡ (P k || (b && (eqb k at && may_pass question r)))) → Has_passing question (cond b (mine ++ r ∷ []) mine) Q
-put_more question mine r false at P Q e old none put j d h = put j ∙ or_false (P j) ∙ old j d h
+put_more question mine r false at P Q e old none put j d h = put j ∙ or-false (P j) ∙ old j d h
 put_more question mine r true at P Q e old none put j d h = by (ltb j (length mine)) refl
   where
     by : (b : Bool) → ltb j (length mine) ≡ b → Q j ≡ may_pass question (slice_index_or (mine ++ r ∷ []) j d)
     by true t =
         let inside = ltb-true j (length mine) t in
-        put j ∙ ap (λ b. P j || (true && (b && may_pass question r))) (not_last j at (omega (arith, inside, e))) ∙ or_false (P j)
+        put j ∙ ap (λ b. P j || (true && (b && may_pass question r))) (not_last j at (omega (arith, inside, e))) ∙ or-false (P j)
         ∙ old j d inside ∙ ap (may_pass question) (sym (get_or_append_left mine (r ∷ []) d j inside))
     by false t =
-        let last : j ≡ at = omega (arith, e, h, length-append mine (r ∷ []), not_less j (length mine) t) in
+        let last : j ≡ at = omega (arith, e, h, length-append mine (r ∷ []), ltb-false j (length mine) t) in
         let is : slice_index_or (mine ++ r ∷ []) j d ≡ r = get_or_push mine r d j (sym (last ∙ e)) in
         put j ∙ ap (λ b. P j || (true && (b && may_pass question r))) (ap (λ n. eqb n at) last ∙ self_equal at)
         ∙ ap (λ b. b || (true && (true && may_pass question r))) (ap P last ∙ none) ∙ ap (may_pass question) (sym is)
@@ -125,11 +125,11 @@ none_put tag r at next k question P Q is le none put = by (is_for tag r) is put
     by : (b : Bool) → next ≡ cond b (at + 1) at → Q k ≡ (P k || (b && (eqb k at && may_pass question r))) → Q k ≡ false
     by true is put =
         let more : at < k = omega (arith, is, le) in
-        put ∙ ap (λ b. P k || (true && (b && may_pass question r))) (after at k more) ∙ or_false (P k) ∙ none (omega (arith, more))
+        put ∙ ap (λ b. P k || (true && (b && may_pass question r))) (after at k more) ∙ or-false (P k) ∙ none (omega (arith, more))
       where
         after : (at k : ℕ) → at < k → eqb k at ≡ false
         after at k h = ne_eqb k at (λ e. absurd (omega (arith, h, e)))
-    by false is put = put ∙ or_false (P k) ∙ none (omega (arith, is, le))
+    by false is put = put ∙ or-false (P k) ∙ none (omega (arith, is, le))
 
 -- what each of the rules for a tag passes, after one rule more
 abbrev All_pass : Question → List Rule → Type 0
@@ -145,7 +145,7 @@ one_passes question mine r true old new j d h = by (ltb j (length mine)) refl
         let inside = ltb-true j (length mine) t in
         ap (may_pass question) (get_or_append_left mine (r ∷ []) d j inside) ∙ old j d inside
     by false t =
-        let last : j ≡ length mine = omega (arith, h, length-append mine (r ∷ []), not_less j (length mine) t) in
+        let last : j ≡ length mine = omega (arith, h, length-append mine (r ∷ []), ltb-false j (length mine) t) in
         ap (may_pass question) (get_or_push mine r d j (sym last)) ∙ new refl
 
 pub rule_passes : (rules : List Rule) (tag : CallTag) (question : Question) (i : ℕ) (r : Rule) → i < length rules → r ≡ slice_index_or rules i r
@@ -205,7 +205,7 @@ table_pushed rules tag tables table old new i d h = by (ltb i (length tables)) r
         let inside = ltb-true i (length tables) t in
         subst (IsTable rules tag) (sym (get_or_append_left tables (table ∷ []) d i inside)) (old i d inside)
     by false t =
-        let last : i ≡ length tables = omega (arith, h, length-append tables (table ∷ []), not_less i (length tables) t) in
+        let last : i ≡ length tables = omega (arith, h, length-append tables (table ∷ []), ltb-false i (length tables) t) in
         subst (IsTable rules tag) (sym (get_or_push tables table d i (sym last))) new
 
 pub table_complete : RulesThatHoldPass → (rules : List Rule) (tag : CallTag) (args : List Arg) (tables : List Table) (i : ℕ) (table : Table) (old new : List ℕ) (slot : ℕ)
@@ -237,20 +237,11 @@ table_alone rules tag args tables i table old new slot within is are inside m pu
     by : (b : Bool) → ltb n i ≡ b → PassesTable (slice_index_or tables n t) args (slice_index_or (rules_for tag rules) j d)
     by true e = up j d h both.0 n t here (ltb-true n i e)
     by false e =
-        let last : n ≡ i = omega (arith, before, not_less n i e) in
+        let last : n ≡ i = omega (arith, before, ltb-false n i e) in
         let same : slice_index_or tables n t ≡ table =
         ap (λ m. slice_index_or tables m t) last ∙ get_or_default tables i t table within ∙ sym is
         in
         subst (λ u. PassesTable u args (slice_index_or (rules_for tag rules) j d)) (sym same) passes
-
--- buckets
-lacking : (b : Bool) → not b ≡ true → b ≡ false
-lacking true h = sym h
-lacking false h = refl
-
-lacks : (b : Bool) → b ≡ false → not b ≡ true
-lacks true h = sym h
-lacks false h = refl
 
 pub bucket_complete : RulesThatHoldPass → (rules : List Rule) (tag : CallTag) (args : List Arg) (param bucket : ℕ) (sets : List (List ℕ))
     → AreBuckets rules tag param sets → bucket < length sets → list_any (is_in_bucket bucket) (units_in (arg_at args param)) ≡ false
@@ -258,7 +249,7 @@ pub bucket_complete : RulesThatHoldPass → (rules : List Rule) (tag : CallTag) 
     → Has (slice_index_or sets bucket []) j
 bucket_complete pass rules tag args param bucket sets are within none j d h holds =
     selected pass rules tag args (Without param bucket) (slice_index_or sets bucket []) (are bucket [] within)
-    (lacks (list_any (is_in_bucket bucket) (units_in (arg_at args param))) none) j d h holds
+    (not_from_false (list_any (is_in_bucket bucket) (units_in (arg_at args param))) none) j d h holds
 
 pub bucket_alone : (rules : List Rule) (tag : CallTag) (args : List Arg) (param bits : ℕ) (sets : List (List ℕ)) → length sets ≡ 64
     → AreBuckets rules tag param sets → AreNeeded rules tag param bits → (j : ℕ) (d : Rule) → j < length (rules_for tag rules)
@@ -271,5 +262,5 @@ bucket_alone rules tag args param bits sets many are needed j d h bucket within 
     by zero e g = needed bucket within e j d h
     by (suc zero) e g =
         sym (are bucket [] (omega (arith, within, many)) j d h)
-        ∙ has_it e (lacking (list_any (is_in_bucket bucket) (units_in (arg_at args param))) m)
+        ∙ has_it e (not-true (list_any (is_in_bucket bucket) (units_in (arg_at args param))) m)
     by (suc (suc bit)) e g = absurd (omega (arith, g))

@@ -7,10 +7,10 @@ use std::alloc::Global;
 use std::marker::Model;
 
 /// The most bounds of a table: two for each rule of a policy.
-pub const MOST_BOUNDS: usize = 512;
+pub const MAX_BOUNDS: usize = 512;
 
 /// Numbers that divide all numbers into slots, one slot more than there are bounds: each bound is the first number of a slot, and the
-/// first slot begins with 0. They rise, and there are at most `MOST_BOUNDS`.
+/// first slot begins with 0. They rise, and there are at most `MAX_BOUNDS`.
 #[derive(Drop)]
 pub struct Bounds {
     items: Vec<u64>,

@@ -9,11 +9,11 @@ use crate::questions::Feature;
 use crate::values::{Values, values_of};
 use sb_base::NoMemory;
 use sb_call::{CallTag, ParamKind};
-use sb_rule::{MOST_RULES, Rule};
+use sb_rule::{MAX_RULES, Rule};
 use std::alloc::Global;
 
 // The most units that are skipped before a front.
-const MOST_SKIPPED: usize = 48;
+const MAX_SKIPPED: usize = 48;
 
 // The numbers from `lo` to `hi` begin at `lo` and end before the number after `hi`. That after the highest is 0, which is no bound.
 fn push_range(bounds: &mut Vec<u64>, lo: u64, hi: u64) -> Result<(), NoMemory> {
@@ -60,7 +60,7 @@ fn bounds_for(rules: &[Rule], tag: CallTag) -> usize
     ensures most { result ≤ most_bounds }
     ensures few { result ≤ 2 * length (rules_for tag rules.now) }
 {
-    2 * count_for(rules, tag).min(MOST_RULES)
+    2 * count_for(rules, tag).min(MAX_RULES)
 }
 
 /// The bounds of a feature for the rules of a tag, in order and each once: at most two for each rule.
@@ -93,7 +93,7 @@ fn best_front(
     let mut best = Feature::Front { param, skip: 0 };
     let mut most = 0;
     let full = bounds_for(rules, tag);
-    for skip in 0..MOST_SKIPPED {
+    for skip in 0..MAX_SKIPPED {
         if most >= full {
             break;
         }

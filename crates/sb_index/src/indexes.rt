@@ -19,7 +19,7 @@ use std::marker::Model;
 use std::snapshot::Snapshot;
 
 // The most tables of an index.
-const MOST_TABLES: usize = 2;
+const MAX_TABLES: usize = 2;
 
 /// For the arguments of a call the rules that may hold: at most 2 tables, each of at most two bounds for each rule for the tag and one
 /// more set than bounds, and 64 sets of buckets. Contracts see the rules and the tag that it is an index of, and what it asks.
@@ -68,7 +68,7 @@ fn push_table(
 {
     let feature = feature_of(alloc, rules, tag, param, kind)?;
     let bounds = bounds_of(alloc, rules, tag, feature)?;
-    if bounds.len() > 0 && tables.len() < MOST_TABLES {
+    if bounds.len() > 0 && tables.len() < MAX_TABLES {
         tables.push(Table::new(alloc, rules, tag, feature, bounds)?)?;
     }
     Ok(())

@@ -39,12 +39,7 @@ fn lies(first: u64, last: u64, number: u64) -> bool
 fn one_lies(numbers: &[u64], first: u64, last: u64) -> bool
     ensures { result ≡ list_any (lies first last) numbers.now }
 {
-    for number in numbers {
-        if lies(first, last, *number) {
-            return true;
-        }
-    }
-    false
+    numbers.iter().any(|number| lies(first, last, *number))
 }
 
 fn numbers_of(test: &Test) -> Option<Values<'_>>
@@ -106,12 +101,9 @@ fn cond_passes(feature: Feature, cond: &Cond, first: u64, last: u64) -> bool
 pub fn conds_pass(feature: Feature, conds: &[Cond], first: u64, last: u64) -> bool
     ensures { result ≡ list_all (cond_may_pass (Within feature first last)) conds.now }
 {
-    for cond in conds {
-        if !cond_passes(feature, cond, first, last) {
-            return false;
-        }
-    }
-    true
+    conds
+        .iter()
+        .all(|cond| cond_passes(feature, cond, first, last))
 }
 
 // The values that are among these, if there are some, and among those of one more condition: exactly, or of two lists of numbers the

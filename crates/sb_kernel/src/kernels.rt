@@ -270,7 +270,7 @@ impl Kernel {
                 initial,
             } => self
                 .events
-                .start(name.as_units(), EventKind::of(*kind), *initial != 0),
+                .start(name.as_units(), EventKind::from(*kind), *initial != 0),
         }
     }
 }

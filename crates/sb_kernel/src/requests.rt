@@ -182,8 +182,8 @@ fn pipe_create(args: &[Arg]) -> Option<Request<'_>>
     ensures proper { IfSome result (λ request. is_proper (meant request) ≡ true) }
 {
     let name = name_at(CallTag::PipeCreate, args, 0);
-    let mode = PipeMode::of(number_at(args, 1));
-    let form = PipeForm::of(number_at(args, 2));
+    let mode = PipeMode::try_from(number_at(args, 1)).ok();
+    let form = PipeForm::try_from(number_at(args, 2)).ok();
     pipe_of(name, mode, form, number_at(args, 3))
 }
 
@@ -234,7 +234,7 @@ fn key_open(args: &[Arg]) -> Request<'_>
     }
 }
 
-// What a event.open asks for.
+// What an event.open asks for.
 fn event_open(args: &[Arg]) -> Request<'_>
     requires { fits tag.EventOpen args.now ≡ true }
     ensures request { Some (meant result) ≡ request_of tag.EventOpen args.now }
@@ -246,7 +246,7 @@ fn event_open(args: &[Arg]) -> Request<'_>
     }
 }
 
-// What a event.create asks for.
+// What an event.create asks for.
 fn event_create(args: &[Arg]) -> Option<Request<'_>>
     requires { fits tag.EventCreate args.now ≡ true }
     ensures request { option_map meant result ≡ request_of tag.EventCreate args.now }
@@ -259,7 +259,7 @@ fn event_create(args: &[Arg]) -> Option<Request<'_>>
     }
     Some(Request::EventCreate {
         name,
-        kind: EventKind::of(kind),
+        kind: EventKind::from(kind),
         initial: initial != 0,
     })
 }

@@ -11,7 +11,7 @@ use sb_statements::CallResult;
 use std::alloc::Global;
 
 // More rounds than a call takes, of one step of each.
-const MOST_ROUNDS: u32 = 400;
+const MAX_ROUNDS: u32 = 400;
 
 // The value that a step found, 0 if it found none.
 fn value_of(seen: Observed) -> u64 {
@@ -118,7 +118,7 @@ fn whole_call(alloc: Global, rules: &str, text: &str, bulk: bool) -> Result<Stri
     if !call.begin(1, 0, &block) {
         return Err(RowFault::NotInRange);
     }
-    for _round in 0..MOST_ROUNDS {
+    for _round in 0..MAX_ROUNDS {
         step_caller(&mut channel, &mut call);
         if bulk {
             move_worker(alloc, &mut channel, &set, &mut worker)?;
@@ -162,7 +162,7 @@ pub fn began(alloc: Global, text: &str) -> Result<String, RowFault> {
         call.begin(1, patience, &block),
         call.begin(1, patience, &block),
     );
-    for _round in 0..MOST_ROUNDS {
+    for _round in 0..MAX_ROUNDS {
         step_caller(&mut channel, &mut call);
     }
     let mut out = String::new(alloc);

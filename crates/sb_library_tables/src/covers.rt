@@ -2,7 +2,7 @@
 
 use crate::policies::set_of;
 use sb_call::{Arg, Args, CallTag, call_word, tag_of_word};
-use sb_cover::{Budget, CallCover, Question, cover};
+use sb_cover::{Budget, Question, cover};
 use sb_host::PolicySet;
 use sb_rows::{RowFault, put_between, put_word};
 use std::alloc::Global;
@@ -42,16 +42,13 @@ fn put_call(out: &mut String, tag: CallTag, args: &Args) -> Result<(), RowFault>
 }
 
 // The calls of a cover, each as a script writes it.
-fn told_calls(alloc: Global, tag: CallTag, found: Option<CallCover>) -> Result<String, RowFault> {
-    let Some(found) = found else {
+fn told_calls(alloc: Global, tag: CallTag, calls: Option<Vec<Args>>) -> Result<String, RowFault> {
+    let Some(calls) = calls else {
         return Ok(String::from_str(alloc, "too complex")?);
     };
     let mut out = String::new(alloc);
-    for args in &found.calls {
+    for args in &calls {
         put_call(&mut out, tag, args)?;
-    }
-    if !found.are_shown {
-        out.push_str("; not all can be shown")?;
     }
     Ok(out)
 }

@@ -12,7 +12,7 @@ use sb_rule::Verdict;
 use std::alloc::Global;
 
 // More steps than a worker makes from one look to its next.
-const MOST_STEPS: u32 = 200;
+const MAX_STEPS: u32 = 200;
 
 // The mark of the calls of all rows.
 const MARK: u64 = 0x10000;
@@ -43,7 +43,7 @@ pub fn copied(alloc: Global, loaded: &str, text: &str) -> Result<String, RowFaul
 
 /// Makes the steps of a worker until it is to answer, or has looked in vain. True if it is to answer.
 pub fn serve(channel: &mut Channel, worker: &mut HostWorker) -> bool {
-    for _step in 0..MOST_STEPS {
+    for _step in 0..MAX_STEPS {
         if worker.copy_to_answer().is_some() {
             return true;
         }
@@ -55,7 +55,7 @@ pub fn serve(channel: &mut Channel, worker: &mut HostWorker) -> bool {
 
 // Makes the steps of a worker until the reply is there.
 fn finish(channel: &mut Channel, worker: &mut HostWorker) {
-    for _step in 0..MOST_STEPS {
+    for _step in 0..MAX_STEPS {
         if channel.is_acknowledged() {
             return;
         }

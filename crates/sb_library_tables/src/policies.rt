@@ -8,7 +8,7 @@ use sb_ruletext::{TextRefused, read_policies};
 use std::alloc::Global;
 
 // As many bytes as the sandbox reads of a policy.
-const MOST_BYTES: usize = 4_194_304;
+const MAX_BYTES: usize = 4_194_304;
 
 /// The policies `web`, with these rules, separated by semicolons, the first of which is on line 3, and `none`, with no rule.
 pub fn set_of(alloc: Global, rules: &str) -> Result<PolicySet, RowFault> {
@@ -17,7 +17,7 @@ pub fn set_of(alloc: Global, rules: &str) -> Result<PolicySet, RowFault> {
         write!(text, "{rule}\n")?;
     }
     text.push_str("policy none\n")?;
-    if text.len() > MOST_BYTES {
+    if text.len() > MAX_BYTES {
         return Err(RowFault::TooMany);
     }
     match read_policies(alloc, text.as_str().as_bytes()) {

@@ -9,11 +9,10 @@ use Rattle.std.proofs.lemmas.List.Folds.{list_all-append}
 use Rattle.std.proofs.lemmas.Str.{IsUtf8-from_is_utf8}
 use Rattle.sb_text.specs.Lines.{NumberedLine, lines_of}
 use Rattle.sb_text.specs.Readings.{on_line, read_by, read_lines, where_utf8}
-use Rattle.sb_text.specs.Spots.{by_tokens}
 use Rattle.sb_text.specs.Steps.{◌>>=◌, end_at, unless_fails}
 use Rattle.sb_text.specs.Strings.{QuotedStringsAreText, is_text}
 use Rattle.sb_text.specs.TokenLaws.{QuotedTokensAreText, has_quoted_text, is_quoted_byte, is_quoted_text}
-use Rattle.sb_text.specs.Tokens.{Lexeme, Word, Quoted, Bad, string_of, tokens_of}
+use Rattle.sb_text.specs.Tokens.{Lexemes, Next, End, Word, Quoted, Bad, by_tokens, lexemes, place_due, string_of, tokens_of}
 use Rattle.sb_text.specs.Utf8.{Place, not_utf8_place}
 use Rattle.sb_text.specs.declared.refusals.TokenFault.{TokenFault}
 use Rattle.sb_text.specs.declared.refusals.WordFault.TheVariants as word
@@ -22,6 +21,7 @@ use Rattle.sb_link.specs.Links.{AreLinks, is_from, is_link_name, most_links}
 use Rattle.sb_link.specs.Writing.{ReadLinksAreLinks, is_writable}
 use Rattle.sb_link.specs.declared.faults.LinkKind.{LinkKind}
 use Rattle.sb_link.specs.declared.faults.LinkKind.TheVariants.{NotUtf8, UnknownWord, BadName, SameName, TooMany}
+use Rattle.sb_link.specs.declared.link_texts.LinkLine.{LinkLine}
 use Rattle.sb_link.specs.declared.links.Link.{Link}
 use Rattle.sb_link.proofs.Adding.{both, one_more}
 use Rattle.sb_link.proofs.Written.{many, named_from, named_to, same}
@@ -41,34 +41,39 @@ quoted_text law q h =
     let text = law q (IsUtf8-from_is_utf8 q parts.0) parts.1 in
     both _ _ text.0 text.1
 
-strings_writable : QuotedStringsAreText → (tokens : List Lexeme) (link : Link) → link_at tokens ≡ Ok link → list_all is_quoted_text tokens ≡ true
-    → is_writable link ≡ true
+strings_writable : QuotedStringsAreText → (line tokens : Lexemes) (found : LinkLine) → link_at line tokens ≡ Ok found
+    → list_all is_quoted_text (lexemes tokens) ≡ true → is_writable found.link ≡ true
 unfolding link_at string_at
-strings_writable law [] link h t = absurd cc
-strings_writable law (Word w ∷ tokens) link h t = absurd cc
-strings_writable law (Bad ∷ tokens) link h t = absurd cc
-strings_writable law (Quoted q ∷ []) link h t = absurd cc
-strings_writable law (Quoted q ∷ Word w ∷ tokens) link h t = absurd cc
-strings_writable law (Quoted q ∷ Bad ∷ tokens) link h t = absurd cc
-strings_writable law (Quoted q ∷ Quoted p ∷ Word w ∷ tokens) link h t = absurd cc
-strings_writable law (Quoted q ∷ Quoted p ∷ Bad ∷ tokens) link h t = absurd cc
-strings_writable law (Quoted q ∷ Quoted p ∷ Quoted r ∷ tokens) link h t = absurd cc
-strings_writable law (Quoted q ∷ Quoted p ∷ []) link h t =
+strings_writable law line (End a) found h t = absurd cc
+strings_writable law line (Next a (Word w) tokens) found h t = absurd cc
+strings_writable law line (Next a Bad tokens) found h t = absurd cc
+strings_writable law line (Next a (Quoted q) (End b)) found h t = absurd cc
+strings_writable law line (Next a (Quoted q) (Next b (Word w) tokens)) found h t = absurd cc
+strings_writable law line (Next a (Quoted q) (Next b Bad tokens)) found h t = absurd cc
+strings_writable law line (Next a (Quoted q) (Next b (Quoted p) (Next c (Word w) tokens))) found h t = absurd cc
+strings_writable law line (Next a (Quoted q) (Next b (Quoted p) (Next c Bad tokens))) found h t = absurd cc
+strings_writable law line (Next a (Quoted q) (Next b (Quoted p) (Next c (Quoted r) tokens))) found h t = absurd cc
+strings_writable law line (Next a (Quoted q) (Next b (Quoted p) (End c))) found h t =
     let first = and_parts (is_quoted_text (Quoted q)) (list_all is_quoted_text (Quoted p ∷ [])) t in
     let second = and_parts (is_quoted_text (Quoted p)) true first.1 in
-    subst (λ l. is_writable l ≡ true) (ok_same (record { from = string_of q; to = string_of p }) link h)
+    subst (λ l. is_writable l ≡ true) (ok_link (record { from = string_of q; to = string_of p }) found h)
     (both (is_text (string_of q)) (is_text (string_of p)) (quoted_text law q first.0) (quoted_text law p second.0))
-
-link_writable : QuotedStringsAreText → (tokens : List Lexeme) (link : Link) → read_link tokens ≡ Ok link → list_all is_quoted_text tokens ≡ true
-    → is_writable link ≡ true
-unfolding read_link
-link_writable law [] link h t = absurd cc
-link_writable law (Quoted q ∷ tokens) link h t = absurd cc
-link_writable law (Bad ∷ tokens) link h t = absurd cc
-link_writable law (Word w ∷ tokens) link h t = by (pointwise nat_eq w (codes "link")) h
   where
-    by : (b : Bool) → (unless_fails (Word w ∷ tokens) (UnknownWord word.Unknown) b >>= λ known. link_at tokens) ≡ Ok link → is_writable link ≡ true
-    by true e = strings_writable law tokens link e (and_parts (is_quoted_text (Word w)) (list_all is_quoted_text tokens) t).1
+    ok_link : (link : Link) (found : LinkLine)
+        → ◌≡◌ {A = Result LinkLine (TokenFault LinkKind)} (Ok (record { link = link; word = place_due line; from = a; to = b })) (Ok found) → link ≡ found.link
+    ok_link link found e = ap (λ (l : LinkLine). l.link) (ok_same (record { link = link; word = place_due line; from = a; to = b }) found e)
+
+link_writable : QuotedStringsAreText → (line : Lexemes) (found : LinkLine) → read_link line ≡ Ok found → list_all is_quoted_text (lexemes line) ≡ true
+    → is_writable found.link ≡ true
+unfolding read_link
+link_writable law (End a) found h t = absurd cc
+link_writable law (Next a (Quoted q) tokens) found h t = absurd cc
+link_writable law (Next a Bad tokens) found h t = absurd cc
+link_writable law (Next a (Word w) tokens) found h t = by (pointwise nat_eq w (codes "link")) h
+  where
+    by : (b : Bool) → (unless_fails (Next a (Word w) tokens) (UnknownWord word.Unknown) b >>= λ known. link_at (Next a (Word w) tokens) tokens) ≡ Ok found
+        → is_writable found.link ≡ true
+    by true e = strings_writable law (Next a (Word w) tokens) tokens found e (and_parts (is_quoted_text (Word w)) (list_all is_quoted_text (lexemes tokens)) t).1
     by false e = absurd cc
 
 -- what is true of a link that was added
@@ -82,23 +87,26 @@ record IsNew (links : List Link) (link : Link) (more : List Link) : Type 0 where
 not_read : (fault : TokenFault LinkKind) (more : List Link) → ◌≡◌ {A = Result (List Link) (TokenFault LinkKind)} (Err fault) (Ok more) → ⊥
 not_read fault more h = cc
 
-new_made : (links : List Link) (link : Link) (more : List Link) → new_link links link ≡ Ok more → IsNew links link more
-new_made links link more h =
-    by (is_link_name link.from) (is_link_name link.to) (list_any (is_from link.from) links) (nat_le most_links (length links)) refl refl refl refl
+new_made : (links : List Link) (line : LinkLine) (more : List Link) → new_link links line ≡ Ok more → IsNew links line.link more
+new_made links line more h =
+    by (is_link_name line.link.from) (is_link_name line.link.to) (list_any (is_from line.link.from) links) (nat_le most_links (length links)) refl refl refl refl
   where
-    by : (a b c d : Bool) → is_link_name link.from ≡ a → is_link_name link.to ≡ b → list_any (is_from link.from) links ≡ c → nat_le most_links (length links) ≡ d
-        → IsNew links link more
-    by false b c d e f g k = absurd (not_read (record { left = 2; unit = None; kind = BadName }) more (sym (ap (named_from links link) e) ∙ h))
-    by true false c d e f g k = absurd (not_read (record { left = 1; unit = None; kind = BadName }) more (sym (ap (named_from links link) e ∙ ap (named_to links link) f) ∙ h))
-    by true true true d e f g k = absurd (not_read (record { left = 2; unit = None; kind = SameName }) more (sym (ap (named_from links link) e ∙ ap (named_to links link) f ∙ ap (same links link) g) ∙ h))
+    by : (a b c d : Bool) → is_link_name line.link.from ≡ a → is_link_name line.link.to ≡ b → list_any (is_from line.link.from) links ≡ c
+        → nat_le most_links (length links) ≡ d → IsNew links line.link more
+    by false b c d e f g k = absurd (not_read (record { place = line.from; kind = BadName }) more (sym (ap (named_from links line) e) ∙ h))
+    by true false c d e f g k =
+        absurd (not_read (record { place = line.to; kind = BadName }) more (sym (ap (named_from links line) e ∙ ap (named_to links line) f) ∙ h))
+    by true true true d e f g k =
+        absurd (not_read (record { place = line.from; kind = SameName }) more (sym (ap (named_from links line) e ∙ ap (named_to links line) f ∙ ap (same links line) g) ∙ h))
     by true true false true e f g k =
-        absurd (not_read (record { left = 3; unit = None; kind = TooMany }) more (sym (ap (named_from links link) e ∙ ap (named_to links link) f ∙ ap (same links link) g ∙ ap (many links link) k) ∙ h))
+        absurd (not_read (record { place = line.word; kind = TooMany }) more
+        (sym (ap (named_from links line) e ∙ ap (named_to links line) f ∙ ap (same links line) g ∙ ap (many links line) k) ∙ h))
     by true true false false e f g k = record {
       from = e;
       to = f;
       new = g;
       room = k;
-      is = ok_same (links ++ link ∷ []) more (sym (ap (named_from links link) e ∙ ap (named_to links link) f ∙ ap (same links link) g ∙ ap (many links link) k) ∙ h);
+      is = ok_same (links ++ line.link ∷ []) more (sym (ap (named_from links line) e ∙ ap (named_to links line) f ∙ ap (same links line) g ∙ ap (many links line) k) ∙ h);
     }
 
 less : (n : ℕ) → nat_le 64 n ≡ false → n < 64
@@ -114,9 +122,9 @@ fine_more : QuotedStringsAreText → (links : List Link) (line : NumberedLine) (
     → add_line links line ≡ Ok more → AreFine more
 fine_more law links line more fine t h =
     let read = made (read_link (tokens_of line.text)) (new_link links) more h in
-    let link = read.0 in
-    let new = new_made links link more read.2 in
-    let writable = link_writable law (tokens_of line.text) link read.1 t in
+    let link = read.0.link in
+    let new = new_made links read.0 more read.2 in
+    let writable = link_writable law (tokens_of line.text) read.0 read.1 t in
     subst AreFine new.is (
       one_more links link fine.0 (less (length links) new.room) (both (is_link_name link.from) (is_link_name link.to) new.from new.to) new.new,
       list_all-append is_writable links (link ∷ []) ∙ both _ _ fine.1 (both (is_writable link) true writable refl),

@@ -24,6 +24,6 @@ pub use laws::{
 pub use lines::{put_linked_line, put_stopped_line};
 pub use link_texts::read_links;
 pub use linked_books::{Linked, LinkedBook};
-pub use links::{Link, Links, MOST_LINKS, MOST_STEPS, MOST_UNITS};
+pub use links::{Link, Links, MAX_LINKS, MAX_STEPS, MAX_UNITS};
 pub use script_calls::answer_script;
 pub use stops::{Stop, StoppedCall};

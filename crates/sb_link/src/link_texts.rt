@@ -2,14 +2,14 @@
 ghost use Rattle.std.specs.Prelude.{◌≡◌, ◌<◌, ◌+◌, ◌^◌, [], None, length};
 ghost use Rattle.sb_base.specs.Refusals.{Gives};
 ghost use Rattle.sb_base.specs.declared.refusals.Refused.TheVariants.{Fault};
-ghost use Rattle.sb_text.specs.Spots.{by_tokens};
+ghost use Rattle.sb_text.specs.Tokens.{by_tokens};
 ghost use Rattle.sb_text.specs.Steps.{Becomes, Reads};
 ghost use Rattle.sb_text.specs.declared.refusals.WordFault.TheVariants.{NoVersion};
 ghost use Rattle.sb_link.specs.LinkTexts.{grammar, link_at, new_link, read_link, reading, string_at};
 ghost use Rattle.sb_link.specs.declared.faults.LinkKind.TheVariants.{UnknownWord};
 
 use crate::faults::{LineRefused, LinkKind, LinksRefused};
-use crate::links::{Link, Links, MOST_LINKS, is_link_name};
+use crate::links::{Link, Links, MAX_LINKS, is_link_name};
 use sb_base::Wide;
 use sb_text::{
     Layout, Line, Lines, TextGrammar, TokenFault, Tokens, WordFault, end_at, quoted_at, read_text,
@@ -38,57 +38,73 @@ fn string_at(alloc: Global, tokens: &mut Tokens) -> Result<Wide, LineRefused>
     Ok(string_of(alloc, quoted)?)
 }
 
+// A link, and where its line has what: a place is the number of bytes from there to the line's end.
+#[derive(Drop)]
+pub(crate) struct LinkLine {
+    // What the line says.
+    link: Link,
+    // The place of its word.
+    word: usize,
+    // The place of FROM.
+    from: usize,
+    // The place of TO.
+    to: usize,
+}
+
 // The rest of a line after its word: `"FROM" "TO"`.
 #[tactic(auto, unfolding(crate::specs::LinkTexts::link_at))]
-fn link_at(alloc: Global, tokens: &mut Tokens) -> Result<Link, LineRefused>
-    ensures { Gives (link_at tokens.old) result }
+fn link_at(alloc: Global, line: &Tokens, tokens: &mut Tokens) -> Result<LinkLine, LineRefused>
+    ensures { Gives (link_at line.now tokens.old) result }
 {
+    let from_place = tokens.place();
     let from = string_at(alloc, tokens)?;
+    let to_place = tokens.place();
     let to = string_at(alloc, tokens)?;
     end_at(EXTRA, BROKEN, tokens)?;
-    Ok(Link { from, to })
+    Ok(LinkLine {
+        link: Link { from, to },
+        word: line.place(),
+        from: from_place,
+        to: to_place,
+    })
 }
 
 // A line: `link "FROM" "TO"`.
 #[tactic(auto, unfolding(crate::specs::LinkTexts::read_link))]
-fn read_link(alloc: Global, tokens: &Tokens) -> Result<Link, LineRefused>
-    ensures { Gives (read_link tokens.now) result }
+fn read_link(alloc: Global, line: &Tokens) -> Result<LinkLine, LineRefused>
+    ensures { Gives (read_link line.now) result }
 {
-    let mut rest = tokens.copy();
-    if word_at(QUOTED, BROKEN, MISSING, &mut rest)? != b"link".as_slice() {
-        return Err(tokens.fail(LinkKind::UnknownWord(WordFault::Unknown)));
+    let mut tokens = line.copy();
+    if word_at(QUOTED, BROKEN, MISSING, &mut tokens)? != b"link".as_slice() {
+        return Err(line.fail(LinkKind::UnknownWord(WordFault::Unknown)));
     }
-    link_at(alloc, &mut rest)
+    link_at(alloc, line, &mut tokens)
 }
 
-// This fault where the given number of tokens of the line is left.
-fn refusal(left: usize, kind: LinkKind) -> LineRefused
-    ensures { result ≡ Fault (record { left = left; unit = None; kind = kind }) }
+// This fault at this place of a line.
+fn fail_at(place: usize, kind: LinkKind) -> LineRefused
+    ensures { result ≡ Fault (record { place = place; kind = kind }) }
 {
-    LineRefused::Fault(TokenFault {
-        left,
-        unit: None,
-        kind,
-    })
+    LineRefused::Fault(TokenFault { place, kind })
 }
 
 // Adds the link of a line. After an error the links are as they were.
-fn new_link(links: &mut Links, link: Link) -> Result<(), LineRefused>
-    ensures { Becomes (new_link links.old link) result links.new }
+fn new_link(links: &mut Links, line: LinkLine) -> Result<(), LineRefused>
+    ensures { Becomes (new_link links.old line) result links.new }
 {
-    if !is_link_name(link.from.as_units()) {
-        return Err(refusal(2, LinkKind::BadName));
+    if !is_link_name(line.link.from.as_units()) {
+        return Err(fail_at(line.from, LinkKind::BadName));
     }
-    if !is_link_name(link.to.as_units()) {
-        return Err(refusal(1, LinkKind::BadName));
+    if !is_link_name(line.link.to.as_units()) {
+        return Err(fail_at(line.to, LinkKind::BadName));
     }
-    if links.has_from(link.from.as_units()) {
-        return Err(refusal(2, LinkKind::SameName));
+    if links.has_from(line.link.from.as_units()) {
+        return Err(fail_at(line.from, LinkKind::SameName));
     }
-    if links.len() >= MOST_LINKS {
-        return Err(refusal(3, LinkKind::TooMany));
+    if links.len() >= MAX_LINKS {
+        return Err(fail_at(line.word, LinkKind::TooMany));
     }
-    links.push(link)?;
+    links.push(line.link)?;
     Ok(())
 }
 

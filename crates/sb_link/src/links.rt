@@ -11,13 +11,13 @@ use std::alloc::Global;
 use std::marker::Model;
 
 /// The most links of a list.
-pub const MOST_LINKS: usize = 64;
+pub const MAX_LINKS: usize = 64;
 
 /// The most UTF-16 units of each name of a link.
-pub const MOST_UNITS: usize = 256;
+pub const MAX_UNITS: usize = 256;
 
 /// The most steps by which a name resolves.
-pub const MOST_STEPS: u32 = 8;
+pub const MAX_STEPS: u32 = 8;
 
 /// A link: names that are `from`, or have it before a `\`, lead to `to`.
 pub struct Link {
@@ -66,7 +66,7 @@ impl Model for Links {
 pub(crate) fn is_link_name(units: &[u16]) -> bool
     ensures { result ≡ is_link_name units.now }
 {
-    is_name(units) && units.len() <= MOST_UNITS
+    is_name(units) && units.len() <= MAX_UNITS
 }
 
 fn is_from(name: &[u16], link: &Link) -> bool

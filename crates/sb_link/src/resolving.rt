@@ -2,7 +2,7 @@
 ghost use Rattle.std.specs.Prelude.{◌≡◌, IfOk, true};
 ghost use Rattle.sb_link.specs.Resolution.{is_under, replaced, resolve, resolve_within};
 
-use crate::links::{Link, Links, MOST_STEPS};
+use crate::links::{Link, Links, MAX_STEPS};
 use sb_base::{NoMemory, Wide};
 use std::alloc::Global;
 
@@ -54,7 +54,7 @@ impl Links {
         match self.applying(name) {
             Some(link) => {
                 let next = replaced(alloc, name, link)?;
-                resolve_within(alloc, MOST_STEPS - 1, self, next)
+                resolve_within(alloc, MAX_STEPS - 1, self, next)
             }
             None => Ok(Some(Wide::from_units(alloc, name)?)),
         }

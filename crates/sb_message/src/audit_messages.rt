@@ -11,7 +11,7 @@ use crate::due_texts::{clause_words, put_due};
 use crate::messages::put_place_line;
 use sb_audit::{Due, Refuted};
 use sb_base::NoMemory;
-use sb_glyphs::{MOST_NEAR, first_glyphs_of, put_excerpt};
+use sb_glyphs::{MAX_NEAR, first_glyphs_of, put_excerpt};
 use std::alloc::Global;
 
 // Appends the words of a clause, and what is due.
@@ -77,7 +77,7 @@ fn put_audit_first_line(
 fn put_front(out: &mut String, line: &[u8]) -> Result<(), NoMemory>
     ensures { OnOk result (string_bytes out.new ≡ string_bytes out.old ++ excerpt 0 (glyphs_of line.now)) }
 {
-    let near = first_glyphs_of(*out.allocator(), line, MOST_NEAR)?;
+    let near = first_glyphs_of(*out.allocator(), line, MAX_NEAR)?;
     put_excerpt(out, false, 0, &near)
 }
 

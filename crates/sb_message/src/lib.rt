@@ -24,7 +24,7 @@ pub use message_laws::messages_are_clean;
 pub use messages::{FaultyText, TextFault};
 pub use move_messages::move_message;
 pub use note_laws::{notes_are_clean, notes_are_true};
-pub use note_messages::{MOST_TOLD, notes_text};
+pub use note_messages::{MAX_TOLD, notes_text};
 pub use places::put_place;
 pub use policy_messages::policy_message;
 pub use schedule_messages::schedule_message;

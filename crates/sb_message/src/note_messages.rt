@@ -12,7 +12,7 @@ use sb_text::line_or_empty;
 use std::alloc::Global;
 
 /// The number of notes that are told one by one. If there are more, their number follows.
-pub const MOST_TOLD: usize = 20;
+pub const MAX_TOLD: usize = 20;
 
 fn note_words(kind: NoteKind) -> &'static str
     ensures { result.now ≡ note_words kind }
@@ -51,7 +51,7 @@ fn put_note(out: &mut String, file: &[u8], text: &[u8], note: Note) -> Result<()
 fn first_notes(notes: &[Note]) -> &[Note]
     ensures { result.now ≡ take 20 notes.now }
 {
-    match notes.get(..MOST_TOLD) {
+    match notes.get(..MAX_TOLD) {
         Some(first) => first,
         None => notes,
     }
@@ -71,7 +71,7 @@ fn put_notes(out: &mut String, file: &[u8], text: &[u8], notes: &[Note]) -> Resu
 fn put_number(out: &mut String, number: usize) -> Result<(), NoMemory>
     ensures { OnOk result (string_bytes out.new ≡ string_bytes out.old ++ number_text number) }
 {
-    if number > MOST_TOLD {
+    if number > MAX_TOLD {
         out.push_str("sandbox: note: ")?;
         put_decimal_text(out, number as u64)?;
         out.push_str(" notes, of which the first 20 are shown\n")?;

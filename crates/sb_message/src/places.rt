@@ -9,7 +9,7 @@ use crate::causes::cause_text;
 use crate::messages::{FaultyText, TextFault, put_place_line, text_message};
 use sb_base::NoMemory;
 use sb_glyphs::{
-    Glyph, MOST_GLYPHS, MOST_NEAR, count_glyphs, first_glyphs_of, glyph_count, put_excerpt_lines,
+    Glyph, MAX_GLYPHS, MAX_NEAR, count_glyphs, first_glyphs_of, glyph_count, put_excerpt_lines,
     put_first_token, skip_glyphs,
 };
 use std::alloc::Global;
@@ -88,8 +88,8 @@ pub(crate) fn shown_place(
     ensures lines { IfOk result (λ shown. string_bytes shown.lines ≡ shown_line text column line.now) }
 {
     let place = count_glyphs(line, place_of(text, column, line));
-    let skipped = place.saturating_sub(MOST_GLYPHS);
-    let near = first_glyphs_of(alloc, skip_glyphs(line, skipped), MOST_NEAR)?;
+    let skipped = place.saturating_sub(MAX_GLYPHS);
+    let near = first_glyphs_of(alloc, skip_glyphs(line, skipped), MAX_NEAR)?;
     let mut named = String::new(alloc);
     put_first_token(&mut named, from_place(&near, place - skipped))?;
     let mut lines = String::new(alloc);

@@ -9,7 +9,7 @@ use Rattle.sb_names.specs.Keys.{key_of, parent_of}
 use Rattle.sb_names.specs.Maps.{is_key, is_there}
 use Rattle.sb_names.specs.Nodes.{Nodes, HasNames, HasNoChild, IsAt, IsChild, IsThere, IsUnnamed, name_of, rows_of}
 use Rattle.sb_names.specs.Trees.{has_parent, is_directory_there}
-use Rattle.sb_names.specs.declared.nodes.NameNode.{NameNode}
+use Rattle.sb_names.specs.declared.trees.NameNode.{NameNode}
 use Rattle.sb_names.proofs.NameLemmas.{component_plain, folded_join}
 use Rattle.sb_names.proofs.NodeLemmas.{child_name, found_node, found_none, is_the_child, name_root}
 use Rattle.sb_names.proofs.PathLemmas.{directory_there}

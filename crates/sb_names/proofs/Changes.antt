@@ -12,7 +12,7 @@ use Rattle.sb_names.specs.Hashes.{hash_of}
 use Rattle.sb_names.specs.Keys.{key_of}
 use Rattle.sb_names.specs.Maps.{Rows, Rises, is_key}
 use Rattle.sb_names.specs.Nodes.{Nodes, HasNames, HasNoChild, IsChanged, IsChild, IsIndexed, IsThere, IsUnnamed, KeepsNodes, is_entry, key_at, key_by, name_of, rows_of}
-use Rattle.sb_names.specs.declared.nodes.NameNode.{NameNode}
+use Rattle.sb_names.specs.declared.trees.NameNode.{NameNode}
 use Rattle.sb_names.proofs.Extent.{same_rows}
 use Rattle.sb_names.proofs.MapLaws.{is_found, own_test, is_key_eq}
 use Rattle.sb_names.proofs.NodeLemmas.{found_node, found_none, live_below, name_root, name_step, one_node, rows_rise}

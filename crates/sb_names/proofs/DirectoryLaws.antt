@@ -14,9 +14,10 @@ use Rattle.sb_names.specs.Renames.{is_at_or_below, renamed_key, renamed_rows}
 use Rattle.sb_names.specs.Trees.{AreFolded, IsTree, has_parent_with, is_directory_with, passes}
 use Rattle.sb_names.proofs.MapLaws.{is_found, is_key_eq}
 use Rattle.sb_names.proofs.NameLemmas.{nothing_before, parent_is_path, parent_path}
-use Rattle.sb_names.proofs.RenameLaws.{Has, all_keys, all_under, all_tested, found_renamed, key_apart, key_passes, new_apart, own_folded, parts, renamed_folded, some_name, under}
+use Rattle.sb_names.proofs.RenameLaws.{Has, all_keys, all_under, found_renamed, key_apart, key_passes, new_apart, own_folded, parts, renamed_folded, some_name, under}
 use Rattle.sb_names.proofs.RenameLemmas.{has_path, with_path}
 use Rattle.sb_names.proofs.TreeLaws.{all_put, all_weaker, keys_again, parent_folded}
+use Rattle.sb_names.proofs.TreeLemmas.{all_tested}
 
 module _ (test : ℕ → Bool) (rows : Rows ℕ) (tree : IsTree rows) (are_folded : AreFolded rows)
     (all : list_all (λ row. has_parent_with test rows row.0) rows ≡ true) where

@@ -1,6 +1,7 @@
 -- Rows in an index: what is found under a key, and what an entry that is put, set or taken out makes of the rows.
+use Rattle.std.proofs.lemmas.Option.{same_Some}
 use Rattle.std.proofs.Common.{◌≡◌, ◌<◌, ◌^◌, ◌-◌, ◌==◌, ℕ, Bool, true, false, cond, refl, sym, ◌∙◌, ap, subst, arith, List, [], ◌∷◌, nat_le, if◌then◌else◌}
-use Rattle.std.proofs.lemmas.Bool.{and_parts, false≢true}
+use Rattle.std.proofs.lemmas.Bool.{and_parts, false≢true, and_from}
 use Rattle.std.proofs.lemmas.Bool.Decides.{nat_tests}
 use Rattle.std.proofs.lemmas.Map.{lookup-remove_entry, lookup-set_value}
 use Rattle.std.proofs.lemmas.Map.Keys.{IsDistinct-from_sorted}
@@ -33,25 +34,13 @@ pair_eq (a, b) (c, d) h =
 pub own_place : (p : ℕ × ℕ) → is_at (by_pair p) p ≡ true
 own_place (a, b) = own_pair a b
 
-none_of : {X : Type 0} (o : Option X) → is_some o ≡ false → o ≡ None
+pub none_of : {X : Type 0} (o : Option X) → is_some o ≡ false → o ≡ None
 none_of None e = refl
 none_of (Some x) e = absurd (false≢true (sym e))
 
 -- the range of a hash has each entry of a key with that hash
 in_hash : (hash : ℕ) (q : ℕ × ℕ) → with_hash hash q ≡ (q.0 == hash && nat_le q.1 (2 ^ 64 - 1))
 in_hash hash q = in_range (hash, 0) (hash, 0) (hash, 2 ^ 64 - 1) q refl refl refl
-
-both_true : (a b : Bool) → a ≡ true → b ≡ true → (a && b) ≡ true
-both_true true true ea eb = refl
-both_true false b ea eb = absurd (false≢true ea)
-both_true true false ea eb = absurd (false≢true eb)
-
-some_is : {X : Type 0} (a b : X) → Some a ≡ Some b → a ≡ b
-some_is {X = X} a b e = ap (λ o. value o) e
-  where
-    value : Option X → X
-    value None = a
-    value (Some x) = x
 
 module _ {V : Type 0} where
   -- what is found among the rows is the first entry of the key
@@ -93,7 +82,7 @@ module _ {V : Type 0} where
   own_hash key e h t =
       let parts = and_parts (e.0.0 == hash_of None e.1.0) (nat_le e.0.1 (2 ^ 64 - 1)) h in
       in_hash (hash_of None key) e.0
-      ∙ both_true (e.0.0 == hash_of None key) (nat_le e.0.1 (2 ^ 64 - 1)) (ap (λ k. e.0.0 == hash_of None k) (is_key_eq key e.1.0 t) ∙ parts.0) parts.1
+      ∙ and_from (e.0.0 == hash_of None key) (nat_le e.0.1 (2 ^ 64 - 1)) (ap (λ k. e.0.0 == hash_of None k) (is_key_eq key e.1.0 t) ∙ parts.0) parts.1
 
   pub place_in_hash : (key : List ℕ) (hash : ℕ) (es : Entries V) → hash ≡ hash_of None key → AreHashed es
       → find (is_of key) (filter (λ e. with_hash hash e.0) es) ≡ find (is_of key) es
@@ -141,7 +130,7 @@ module _ {V : Type 0} where
           → (place_of key es ≡ Some (number, v) → HasAt key (hash, number) es)
           → (old : List ℕ × V) × ((if b then Some e else find (is_of key) es) ≡ Some ((hash, number), old))
       by hashed true t at again =
-          let n : e.0.1 ≡ number = ap (λ p. p.0) (some_is (e.0.1, e.1.1) (number, v) at) in
+          let n : e.0.1 ≡ number = ap (λ p. p.0) (same_Some (e.0.1, e.1.1) (number, v) at) in
           let h : e.0.0 ≡ hash = hash_is hash e hashed ∙ ap (λ k. hash_of None k) (sym (is_key_eq key e.1.0 t)) ∙ sym same in
           (e.1, λ i. Some ((h i, n i), e.1))
       by hashed false t at again = again at
@@ -154,7 +143,7 @@ module _ {V : Type 0} where
       by : (b : Bool) → (if b then Some x else find p es) ≡ Some (q, old) → (find p es ≡ Some (q, old) → is_some (lookup (is_at (by_pair q)) es) ≡ true)
           → is_some (cond (is_at (by_pair q) x.0) (Some x.1) (lookup (is_at (by_pair q)) es)) ≡ true
       by true e again =
-          let same : x.0 ≡ q = ap (λ y. y.0) (some_is x (q, old) e) in
+          let same : x.0 ≡ q = ap (λ y. y.0) (same_Some x (q, old) e) in
           ap (λ b. is_some (cond b (Some x.1) (lookup (is_at (by_pair q)) es))) (ap (is_at (by_pair q)) same ∙ own_place q)
       by false e again = kept_on (is_at (by_pair q) x.0) x.1 (lookup (is_at (by_pair q)) es) (again e)
 
@@ -192,7 +181,7 @@ module _ {V : Type 0} where
           → (find (is_of key) es ≡ Some (q, has.0) → (lookup (is_at (by_pair q)) es ≡ Some has.0) × (key ≡ has.0.0))
           → (lookup (is_at (by_pair q)) (e ∷ es) ≡ Some has.0) × (key ≡ has.0.0)
       by true t at again =
-          let same = some_is e (q, has.0) at in
+          let same = same_Some e (q, has.0) at in
           let here : is_at (by_pair q) e.0 ≡ true = ap (is_at (by_pair q)) (ap (λ y. y.0) same) ∙ own_place q in
           (rw here (ap (λ y. Some y.1) same), is_key_eq key e.1.0 t ∙ ap (λ y. y.1.0) same)
       by false t at again =
@@ -253,7 +242,7 @@ module _ {V : Type 0} where
           → lookup (is_key k) (values_of (set_value test (e ∷ es) (key, w)))
           ≡ (if is_key k key then Some w else cond (is_key k e.1.0) (Some e.1.1) (lookup (is_key k) (values_of es)))
       by true t at again =
-          let here : test e.0 ≡ true = ap test (ap (λ y. y.0) (some_is e (q, has.0) at)) ∙ own_place q in
+          let here : test e.0 ≡ true = ap test (ap (λ y. y.0) (same_Some e (q, has.0) at)) ∙ own_place q in
           rw here (same (is_key k key) refl (is_key_eq key e.1.0 t))
       by false t at again =
           let away : test e.0 ≡ false = other_place (is_of key) q has.0 e es apart.0 at in
@@ -288,7 +277,7 @@ module _ {V : Type 0} where
           → lookup (is_key k) (values_of (remove_entry test (e ∷ es)))
           ≡ (if is_key k key then None else cond (is_key k e.1.0) (Some e.1.1) (lookup (is_key k) (values_of es)))
       by true t at again =
-          let here : test e.0 ≡ true = ap test (ap (λ y. y.0) (some_is e (q, has.0) at)) ∙ own_place q in
+          let here : test e.0 ≡ true = ap test (ap (λ y. y.0) (same_Some e (q, has.0) at)) ∙ own_place q in
           rw here (same (is_key k key) refl (is_key_eq key e.1.0 t))
       by false t at again =
           let away : test e.0 ≡ false = other_place (is_of key) q has.0 e es apart.0 at in
@@ -366,7 +355,7 @@ module _ {V : Type 0} where
       by : (b : Bool) → is_key key e.1.0 ≡ b → (if b then Some e else find (is_of key) es) ≡ Some (q, has.0)
           → (find (is_of key) es ≡ Some (q, has.0) → AreApart (set_value test es (key, w))) → AreApart (set_value test (e ∷ es) (key, w))
       by true t at again =
-          let here : test e.0 ≡ true = ap test (ap (λ y. y.0) (some_is e (q, has.0) at)) ∙ own_place q in
+          let here : test e.0 ≡ true = ap test (ap (λ y. y.0) (same_Some e (q, has.0) at)) ∙ own_place q in
           rw here (apart.0, ap (λ k. lookup (is_key k) (values_of es)) (is_key_eq key e.1.0 t) ∙ apart.1, apart.2)
       by false t at again =
           let away : test e.0 ≡ false = other_place (is_of key) q has.0 e es apart.0 at in
@@ -387,7 +376,7 @@ module _ {V : Type 0} where
       by : (b : Bool) → is_key key e.1.0 ≡ b → (if b then Some e else find (is_of key) es) ≡ Some (q, has.0)
           → (find (is_of key) es ≡ Some (q, has.0) → AreApart (remove_entry test es)) → AreApart (remove_entry test (e ∷ es))
       by true t at again =
-          let here : test e.0 ≡ true = ap test (ap (λ y. y.0) (some_is e (q, has.0) at)) ∙ own_place q in
+          let here : test e.0 ≡ true = ap test (ap (λ y. y.0) (same_Some e (q, has.0) at)) ∙ own_place q in
           rw here apart.2
       by false t at again =
           let away : test e.0 ≡ false = other_place (is_of key) q has.0 e es apart.0 at in
@@ -449,8 +438,8 @@ module _ {V : Type 0} where
       by first rest true s i =
           let under : e.0.0 ≡ hash_of None key = sym (ap (λ p. p.0) (pair_eq (hash, number) e.0 s)) ∙ same in
           let fits = (and_parts (e.0.0 == hash_of None e.1.0) (nat_le e.0.1 (2 ^ 64 - 1)) first).1 in
-          both_true _ _ (both_true _ _ (is e.0.0 (hash_of None key) under) fits) rest
-      by first rest false s i = both_true _ _ first i
+          and_from _ _ (and_from _ _ (is e.0.0 (hash_of None key) under) fits) rest
+      by first rest false s i = and_from _ _ first i
 
   hashed_out : (q : ℕ × ℕ) (es : Entries V) → AreHashed es → AreHashed (remove_entry (is_at (by_pair q)) es)
   hashed_out q [] h = refl
@@ -460,11 +449,11 @@ module _ {V : Type 0} where
     where
       by : is_hashed e ≡ true → AreHashed es → (b : Bool) → AreHashed (remove_entry (is_at (by_pair q)) es) → AreHashed (cond b es (e ∷ remove_entry (is_at (by_pair q)) es))
       by first rest true i = rest
-      by first rest false i = both_true _ _ first i
+      by first rest false i = and_from _ _ first i
 
   hashed_more : (q : ℕ × ℕ) (w : List ℕ × V) (es : Entries V) → is_hashed (q, w) ≡ true → AreHashed es → lookup (is_at (by_pair q)) es ≡ None
       → AreHashed (insert_entry by_pair es q w)
-  hashed_more q w [] new h free = both_true _ _ new refl
+  hashed_more q w [] new h free = and_from _ _ new refl
   hashed_more q w (e ∷ es) new h free =
       let parts = and_parts (is_hashed e) (list_all is_hashed es) h in
       by parts.0 (by_pair q e.0) free (hashed_more q w es new parts.1)
@@ -472,9 +461,9 @@ module _ {V : Type 0} where
       by : is_hashed e ≡ true → (o : Ordering) → cond (is_eq o) (Some e.1) (lookup (is_at (by_pair q)) es) ≡ None
           → (lookup (is_at (by_pair q)) es ≡ None → AreHashed (insert_entry by_pair es q w))
           → AreHashed (match_ordering o ((q, w) ∷ e ∷ es) ((e.0, w) ∷ es) (e ∷ insert_entry by_pair es q w))
-      by first Less free again = both_true _ _ new h
+      by first Less free again = and_from _ _ new h
       by first Equal free again = absurd (false≢true (ap is_some (sym free)))
-      by first Greater free again = both_true _ _ first (again free)
+      by first Greater free again = and_from _ _ first (again free)
 
   -- what the changes make of the rows
   module _ (name : List ℕ) (hash number : ℕ) (es : Entries V) (same : hash ≡ hash_of None (key_of name)) (kept : IsKept es) where
@@ -509,7 +498,7 @@ module _ {V : Type 0} where
         own_row : (row : List ℕ × V) → lookup (is_at (by_pair place)) es ≡ Some row → key ≡ row.0
         own_row row e =
             let found = row_at key place es kept.1 has in
-            found.1 ∙ ap (λ r. r.0) (some_is has.0 row (sym found.0 ∙ e))
+            found.1 ∙ ap (λ r. r.0) (same_Some has.0 row (sym found.0 ∙ e))
 
         pub set_kept : IsKept (set_value (is_at (by_pair place)) es (key, w))
         set_kept = (hashed_set key w hash number es same kept.0, apart_set key w place es kept.1 has)

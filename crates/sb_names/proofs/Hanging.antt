@@ -5,7 +5,7 @@ use Rattle.std.specs.Prelude.{Option, Some, None, is_some}
 use Rattle.sb_arena.specs.Forests.{HasLiveLinks, IsLive, IsSound, node_number, parent_of as node_parent, value_at, with_node}
 use Rattle.sb_arena.specs.Laws.{AddsLeaveParents, AddsSetValues, LinksSetParents, NumbersAreFree}
 use Rattle.sb_names.specs.Nodes.{Nodes, IsApart, IsChanged, IsThere, hung}
-use Rattle.sb_names.specs.declared.nodes.NameNode.{NameNode}
+use Rattle.sb_names.specs.declared.trees.NameNode.{NameNode}
 use Rattle.sb_names.proofs.Changes.{apart_new, linked_changes, is_same, is_other}
 use Rattle.sb_names.proofs.NodeLemmas.{live_below}
 

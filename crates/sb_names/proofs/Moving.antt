@@ -11,7 +11,7 @@ use Rattle.sb_names.specs.Keys.{key_of}
 use Rattle.sb_names.specs.Nodes.{Nodes, HasNames, IsApart, IsChanged, IsIndexed, KeepsRows, MovesEntry, has_entry, hash_at, key_at, key_by, name_of, rows_of}
 use Rattle.sb_base.specs.Orders.{by_pair}
 use Rattle.sb_names.specs.Renames.{collected, renamed_key}
-use Rattle.sb_names.specs.declared.nodes.NameNode.{NameNode}
+use Rattle.sb_names.specs.declared.trees.NameNode.{NameNode}
 use Rattle.sb_names.proofs.Changes.{indexed_changed, parent_here, value_here}
 use Rattle.sb_names.proofs.IndexLemmas.{same_pair}
 use Rattle.sb_names.proofs.PutLemmas.{other_pair, own_pair}

@@ -59,7 +59,7 @@ pub nothing_before : (q r : List ℕ) → q ++ r ≡ [] → q ≡ []
 nothing_before [] r e = refl
 nothing_before (u ∷ us) r e = absurd (cc)
 
-backslash_folded : (u : ℕ) → is_backslash (folded u) ≡ is_backslash u
+pub backslash_folded : (u : ℕ) → is_backslash (folded u) ≡ is_backslash u
 backslash_folded u = grind (arith, nat_tests)
 
 pub any_folded : (us : List ℕ) → list_any is_backslash (key_of us) ≡ list_any is_backslash us

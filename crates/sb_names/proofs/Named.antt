@@ -13,7 +13,7 @@ use Rattle.sb_names.specs.Keys.{key_of}
 use Rattle.sb_names.specs.Laws.{NamesFold}
 use Rattle.sb_names.specs.Nodes.{Nodes, HasNames, key_at, key_by, name_of, rows_of}
 use Rattle.sb_names.specs.Trees.{AreNamed}
-use Rattle.sb_names.specs.declared.nodes.NameNode.{NameNode}
+use Rattle.sb_names.specs.declared.trees.NameNode.{NameNode}
 use Rattle.sb_names.proofs.NameLemmas.{folded_join}
 use Rattle.sb_names.proofs.NodeLemmas.{name_root, name_step}
 use Rattle.sb_names.proofs.Removals.{all_rows_named}

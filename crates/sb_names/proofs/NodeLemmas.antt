@@ -10,12 +10,12 @@ use Rattle.sb_arena.specs.Forests.{IsLive, value_at, parent_of as node_parent, a
 use Rattle.sb_names.specs.Keys.{key_of, parent_of, is_backslash}
 use Rattle.sb_names.specs.Maps.{Rises, is_key}
 use Rattle.sb_names.specs.Nodes.{Nodes, HasNames, IsAt, IsChild, HasNoChild, IsUnnamed, key_at, key_by, name_of, name_up, is_path, rows_below, rows_of, with_row}
-use Rattle.sb_names.specs.declared.nodes.NameNode.{NameNode}
+use Rattle.sb_names.specs.declared.trees.NameNode.{NameNode}
 use Rattle.sb_names.proofs.MapLaws.{is_found, own_test, is_key_eq}
 use Rattle.sb_names.proofs.RisingLemmas.{rises_put, rises_none}
 use Rattle.sb_names.proofs.NameLemmas.{any_folded, folded_join, folded_path, parent_path, parent_last, path_parent, last_equal, not_nothing, nothing_before, component_plain}
 
-joined : (a b c : List ℕ) → a ++ (b ++ c) ≡ (a ++ b) ++ c
+pub joined : (a b c : List ℕ) → a ++ (b ++ c) ≡ (a ++ b) ++ c
 joined [] b c = refl
 joined (u ∷ us) b c = ap (λ more. u ∷ more) (joined us b c)
 

@@ -19,7 +19,7 @@ use Rattle.sb_names.specs.Maps.{Rows, is_key}
 use Rattle.sb_names.specs.Nodes.{Nodes, HasNames, IsChanged, IsThere, key_at, key_by, name_of, rows_below, rows_of, with_row}
 use Rattle.sb_names.specs.Objects.{HasNoHolder, HasObjects, IsNameOf, has_object}
 use Rattle.sb_base.specs.Orders.{by_pair}
-use Rattle.sb_names.specs.declared.nodes.NameNode.{NameNode}
+use Rattle.sb_names.specs.declared.trees.NameNode.{NameNode}
 use Rattle.sb_names.proofs.Changes.{same_of, other_of, value_here, value_other}
 use Rattle.sb_names.proofs.IndexLemmas.{met, none_passes}
 use Rattle.sb_names.proofs.NodeLemmas.{found_node, name_root, name_step}

@@ -11,7 +11,7 @@ use Rattle.sb_names.specs.Keys.{key_of, parent_of, is_backslash}
 use Rattle.sb_names.specs.Maps.{is_key, is_there}
 use Rattle.sb_names.specs.Nodes.{Nodes, HasNames, IsAt, IsUnnamed, is_path, rows_of}
 use Rattle.sb_names.specs.Trees.{is_directory_there}
-use Rattle.sb_names.specs.declared.nodes.NameNode.{NameNode}
+use Rattle.sb_names.specs.declared.trees.NameNode.{NameNode}
 use Rattle.sb_names.proofs.NameLemmas.{component_plain, parent_last, any_folded}
 use Rattle.sb_names.proofs.NodeLemmas.{found_node, found_none}
 

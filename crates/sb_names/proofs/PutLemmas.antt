@@ -9,7 +9,7 @@ use Rattle.sb_names.specs.Hashes.{hash_of}
 use Rattle.sb_names.specs.Keys.{key_of}
 use Rattle.sb_names.specs.Nodes.{Nodes, HasNames, HasNoChild, IsChanged, IsIndexed, IsThere, name_of, rows_of}
 use Rattle.sb_base.specs.Orders.{by_pair}
-use Rattle.sb_names.specs.declared.nodes.NameNode.{NameNode}
+use Rattle.sb_names.specs.declared.trees.NameNode.{NameNode}
 use Rattle.sb_names.proofs.Changes.{indexed_changed, names_changed, rows_added}
 use Rattle.sb_names.proofs.IndexLemmas.{same_pair}
 use Rattle.sb_names.proofs.RisingLemmas.{by_unit}

@@ -9,7 +9,7 @@ use Rattle.std.specs.Map.{keys_of, lookup, remove_entry}
 use Rattle.sb_arena.specs.Forests.{IsLive, value_at, IsShallow, HasLiveLinks}
 use Rattle.sb_names.specs.Maps.{Rows, Rises, is_key}
 use Rattle.sb_names.specs.Nodes.{Nodes, HasNames, name_of, rows_below, rows_of, with_row}
-use Rattle.sb_names.specs.declared.nodes.NameNode.{NameNode}
+use Rattle.sb_names.specs.declared.trees.NameNode.{NameNode}
 use Rattle.sb_names.proofs.MapLaws.{is_key_eq}
 use Rattle.sb_names.proofs.RisingLemmas.{by_unit, key_test, all_put}
 

@@ -18,6 +18,7 @@ use Rattle.sb_names.proofs.NameLemmas.{folded_join, nothing_before, parent_is_pa
 use Rattle.sb_names.proofs.RenameLemmas.{below_more, found_under, has_path, with_path, within_more}
 use Rattle.sb_names.proofs.RisingLemmas.{all_put}
 use Rattle.sb_names.proofs.TreeLaws.{keys_again, parent_folded}
+use Rattle.sb_names.proofs.TreeLemmas.{all_tested}
 
 -- a key has a row
 abbrev pub Has : Rows ℕ → List ℕ → Type 0
@@ -54,10 +55,6 @@ under g rows = collected (map (λ row. (g row.0, row.1)) rows)
 pub all_under : (P : List ℕ → Type 0) (g : List ℕ → List ℕ) (rows : Rows ℕ) → AllByRecursion (λ key. P (g key)) (keys_of rows) → AllByRecursion P (keys_of (under g rows))
 all_under P g [] h = tt
 all_under P g (row ∷ rows) h = all_put P (g row.0) row.1 (under g rows) (all_under P g rows h.1) h.0
-
-pub all_tested : (test : List ℕ → Bool) (rows : Rows ℕ) → AllByRecursion (λ key. test key ≡ true) (keys_of rows) → list_all (λ row. test row.0) rows ≡ true
-all_tested test [] h = refl
-all_tested test (row ∷ rows) h = rw (h.0) (all_tested test rows h.1)
 
 -- a key that is found under new keys is the new key of one
 new_key : (g : List ℕ → List ℕ) (other : List ℕ) (rows : Rows ℕ) → Has (under g rows) other → (key : List ℕ) × Has rows key × (g key ≡ other)

@@ -12,11 +12,11 @@ use Rattle.sb_names.specs.Keys.{key_of, parent_of, is_backslash, is_below}
 use Rattle.sb_names.specs.Maps.{Rows, Rises, is_key}
 use Rattle.sb_names.specs.Nodes.{Nodes, HasNames, IsChanged, IsUnnamed, is_path, key_at, key_by, name_of, rows_of}
 use Rattle.sb_names.specs.Renames.{collected, is_at_or_below, renamed_key}
-use Rattle.sb_names.specs.declared.nodes.NameNode.{NameNode}
+use Rattle.sb_names.specs.declared.trees.NameNode.{NameNode}
 use Rattle.sb_names.proofs.Changes.{name_apart, parent_here, parent_other, rows_match, same_of, other_of, value_here, value_other}
 use Rattle.sb_names.proofs.MapLaws.{is_found, own_test, is_key_eq}
 use Rattle.sb_names.proofs.NameLemmas.{parent_is_path, parent_last, parent_path}
-use Rattle.sb_names.proofs.NodeLemmas.{found_node, key_plain, name_root, name_step, not_root, one_node}
+use Rattle.sb_names.proofs.NodeLemmas.{found_node, key_plain, name_root, name_step, not_root, one_node, joined}
 use Rattle.sb_names.proofs.Removals.{all_rows_named}
 use Rattle.sb_names.proofs.RisingLemmas.{rises_none, rises_put}
 
@@ -41,10 +41,6 @@ has_path (k ∷ key) (u ∷ us) h = by (k == u) refl h (has_path key us)
         let same : u ≡ k = grind (arith, nat_tests, e) in
         ((λ i. same i ∷ (f h).0 i), (f h).1)
     by false e h f = absurd (false≢true h)
-
-joined : (a b c : List ℕ) → a ++ (b ++ c) ≡ (a ++ b) ++ c
-joined [] b c = refl
-joined (u ∷ us) b c = ap (λ more. u ∷ more) (joined us b c)
 
 path_more : (r y : List ℕ) → is_path r ≡ true → is_path (r ++ 92 ∷ y) ≡ true
 path_more [] y h = refl

@@ -13,8 +13,8 @@ use Rattle.sb_names.specs.Maps.{is_key}
 use Rattle.sb_names.specs.Nodes.{Nodes, HasNames, HasNoChild, IsChanged, IsIndexed, IsThere, IsUnnamed, KeepsNodes, key_by, name_of, number_of, rows_of}
 use Rattle.sb_base.specs.Orders.{by_pair}
 use Rattle.sb_names.specs.Rooms.{HasRoomFor}
-use Rattle.sb_names.specs.declared.rooms.NewName.{NewName}
-use Rattle.sb_names.specs.declared.nodes.NameNode.{NameNode}
+use Rattle.sb_names.specs.declared.placing.NewName.{NewName}
+use Rattle.sb_names.specs.declared.trees.NameNode.{NameNode}
 use Rattle.sb_names.proofs.Changes.{indexed_changed, name_kept, rows_match, same_of}
 use Rattle.sb_names.proofs.NodeLemmas.{child_name, found_node, found_none, live_below, name_root, rows_rise}
 use Rattle.sb_names.proofs.PutLemmas.{same_place}

@@ -11,21 +11,13 @@ use Rattle.sb_names.specs.Maps.{Rows, found, is_key, put}
 use Rattle.sb_names.specs.Nodes.{Nodes, HasNames, HasNoChild, IsAt, IsChild, IsUnnamed, name_of, rows_of}
 use Rattle.sb_names.specs.Seeks.{object_by}
 use Rattle.sb_names.specs.Trees.{has_parent, is_directory_there, parent_object}
-use Rattle.sb_names.specs.declared.nodes.NameNode.{NameNode}
+use Rattle.sb_names.specs.declared.trees.NameNode.{NameNode}
 use Rattle.sb_names.proofs.AddLemmas.{name_gone, name_there, parent_there, whole_key}
 use Rattle.sb_names.proofs.NodeLemmas.{child_name, found_node}
 use Rattle.sb_names.proofs.PathLemmas.{directory_gone}
 use Rattle.sb_names.proofs.RisingLemmas.{by_unit}
 use Rattle.sb_names.proofs.TreeLemmas.{object_gone, object_root, object_there}
-
--- what follows from what holds if there was memory
-pub on_ok : {X E A B : Type 0} (r : Result X E) → (A → B) → OnOk r A → OnOk r B
-on_ok (Ok x) f a = f a
-on_ok (Err e) f a = a
-
-none_of : {X : Type 0} (o : Option X) → is_some o ≡ false → o ≡ None
-none_of None e = refl
-none_of (Some x) e = absurd (false≢true (sym e))
+use Rattle.sb_names.proofs.EntryLemmas.{none_of}
 
 module _ (f : Nodes) (names : HasNames f) (shallow : IsShallow f.rows) (live_links : HasLiveLinks f) (name path part : List ℕ)
     (is_path : path ≡ parent_of name) where

@@ -4,7 +4,7 @@ use Rattle.std.specs.Prelude.{Option, Some, None, is_some}
 use Rattle.sb_arena.specs.Forests.{HasLiveLinks, IsAbove, IsLive, ancestor, parent_of as node_parent, value_at, with_value, without_parent}
 use Rattle.sb_arena.specs.Laws.{SetsSetValues, UnlinksClearParents}
 use Rattle.sb_names.specs.Nodes.{Nodes, IsApart, IsChanged, IsThere}
-use Rattle.sb_names.specs.declared.nodes.NameNode.{NameNode}
+use Rattle.sb_names.specs.declared.trees.NameNode.{NameNode}
 use Rattle.sb_names.proofs.Changes.{is_same, same_of}
 use Rattle.sb_names.proofs.NodeLemmas.{live_below}
 

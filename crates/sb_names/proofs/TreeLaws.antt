@@ -16,20 +16,14 @@ use Rattle.sb_names.specs.Maps.{Rows, is_key, found, put}
 use Rattle.sb_names.specs.Trees.{has_parent, is_directory_there}
 use Rattle.sb_names.proofs.MapLaws.{is_found}
 use Rattle.sb_names.proofs.RisingLemmas.{by_unit}
+use Rattle.sb_names.proofs.NameLemmas.{any_folded}
 
 fold_once : (u : ℕ) → folded (folded u) ≡ folded u
 fold_once u = grind (arith, nat_tests)
 
-backslash_folded : (u : ℕ) → is_backslash (folded u) ≡ is_backslash u
-backslash_folded u = grind (arith, nat_tests)
-
 pub keys_again : (us : List ℕ) → key_of (key_of us) ≡ key_of us
 keys_again [] = refl
 keys_again (u ∷ us) = rw (fold_once u, keys_again us) refl
-
-any_folded : (us : List ℕ) → list_any is_backslash (key_of us) ≡ list_any is_backslash us
-any_folded [] = refl
-any_folded (u ∷ us) = rw (backslash_folded u, any_folded us) refl
 
 pub parent_folded : (us : List ℕ) → parent_of (key_of us) ≡ key_of (parent_of us)
 parent_folded [] = refl

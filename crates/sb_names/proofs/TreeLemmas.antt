@@ -9,7 +9,7 @@ use Rattle.sb_names.specs.Keys.{key_of, parent_of}
 use Rattle.sb_names.specs.Maps.{Rows, found, is_key}
 use Rattle.sb_names.specs.Nodes.{Nodes, HasNames, IsAt, IsUnnamed, key_at, key_by, name_of, object_at, rows_of}
 use Rattle.sb_names.specs.Trees.{AreFolded, IsTree, directory_object, has_parent, parent_object}
-use Rattle.sb_names.specs.declared.nodes.NameNode.{NameNode}
+use Rattle.sb_names.specs.declared.trees.NameNode.{NameNode}
 use Rattle.sb_names.proofs.NameLemmas.{folded_join}
 use Rattle.sb_names.proofs.MapLaws.{own_test}
 use Rattle.sb_names.proofs.NodeLemmas.{found_node, found_none, name_root, name_step, not_root, parent_at, parent_name}

@@ -12,7 +12,7 @@ use Rattle.sb_names.specs.Keys.{key_of}
 use Rattle.sb_names.specs.Maps.{Rows, is_key}
 use Rattle.sb_names.specs.Hashes.{hash_of}
 use Rattle.sb_names.specs.Renames.{renamed_key}
-use Rattle.sb_names.specs.declared.nodes.NameNode.{NameNode}
+use Rattle.sb_names.specs.declared.trees.NameNode.{NameNode}
 
 -- the nodes of a tree of names
 abbrev pub Nodes : Type 0

@@ -5,7 +5,7 @@ use Rattle.std.specs.Map.{lookup}
 use Rattle.sb_arena.specs.Forests.{value_at}
 use Rattle.sb_names.specs.Maps.{Rows, is_key}
 use Rattle.sb_names.specs.Nodes.{Nodes}
-use Rattle.sb_names.specs.declared.nodes.NameNode.{NameNode}
+use Rattle.sb_names.specs.declared.trees.NameNode.{NameNode}
 
 -- the folded name of a row whose object has this number, or None if there is no such row
 module _ {V : Type 0} where

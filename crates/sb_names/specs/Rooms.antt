@@ -9,7 +9,7 @@ use Rattle.sb_names.specs.Keys.{key_of}
 use Rattle.sb_names.specs.Maps.{is_key}
 use Rattle.sb_names.specs.Nodes.{Nodes, IsThere, name_of, number_of, rows_of}
 use Rattle.sb_base.specs.Orders.{by_pair}
-use Rattle.sb_names.specs.declared.rooms.NewName.{NewName}
+use Rattle.sb_names.specs.declared.placing.NewName.{NewName}
 
 -- the nodes, and the entries of the indexes that find them: pairs of a hash and a node, and of an object and a node
 pub record Tree : Type 0 where

@@ -3,27 +3,18 @@
 // Names and their parents are those of the object namespace of Windows NT, with ASCII folding alone.
 #![tactic(auto)]
 
-mod folding;
-mod hashes;
 mod keys;
 mod laws;
-mod linked;
 mod maps;
-mod naming;
-mod nodes;
 mod placing;
-mod renaming;
-mod rooms;
-mod seeking;
+mod trees;
 
-pub use folding::fold_name;
-pub use keys::{is_below, parent};
+pub use keys::{fold_name, is_below, parent};
 pub use laws::{
     names_fold, numbers_are_kept, out_is_out, parents_are_kept, puts_are_found, puts_keep_rows,
     puts_keep_trees, renames_are_found, renames_keep_numbers, renames_keep_trees,
 };
-pub use linked::NameTree;
 pub use maps::NameMap;
-pub use rooms::NewName;
+pub use placing::NewName;
 pub use sb_arena::NodeId;
-pub use seeking::Seek;
+pub use trees::{Lookup, NameTree};

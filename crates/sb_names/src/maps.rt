@@ -7,8 +7,7 @@ ghost use Rattle.sb_names.specs.Keys.{key_of};
 ghost use Rattle.sb_names.specs.Maps.{Rises, found, put, replaced, without};
 ghost use Rattle.sb_base.specs.Orders.{by_pair};
 
-use crate::hashes::hash_of;
-use crate::keys::is_key;
+use crate::keys::{hash_of, is_key};
 use sb_base::{NoMemory, Wide};
 use std::alloc::Global;
 use std::collections::BTreeMap;

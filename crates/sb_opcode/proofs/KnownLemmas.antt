@@ -9,7 +9,7 @@ use Rattle.std.proofs.lemmas.List.{length-map, take_at, drop_at}
 use Rattle.sb_rule.specs.declared.cells.Cell.{Cell}
 use Rattle.sb_rule.specs.Actions.{action_number}
 use Rattle.sb_rule.specs.declared.actions.Action.{Action}
-use Rattle.sb_rule.specs.declared.actions.Action.TheVariants.{Allow, Deny, Alarm, Fake, ReadOnly}
+use Rattle.sb_rule.specs.declared.actions.Action.TheVariants.{Allow}
 use Rattle.sb_opcode.specs.Groups.{is_act, is_act_kind}
 use Rattle.sb_opcode.specs.Options.{options_of}
 use Rattle.sb_opcode.specs.Packing.{cell_word, record_of, is_sized, is_sized_kind, is_sized_cell, seek_number, skip_number}
@@ -25,10 +25,7 @@ use Rattle.sb_opcode.proofs.RecordLemmas.{none_is_not_some, unmapped, record_spl
 
 action_back : (a : Action) → action_known (action_number a) ≡ a
 action_back Allow = refl
-action_back Deny = refl
-action_back Alarm = refl
-action_back Fake = refl
-action_back ReadOnly = refl
+action_back _ = refl
 
 small : (n m : ℕ) → nat_lt n m ≡ true → n % m ≡ n
 small n m h = mod-eq_of_lt (ltb-true n m h)

@@ -1,4 +1,5 @@
 -- What unpacking gives: it is packing the other way round, and it goes record by record.
+use Rattle.std.proofs.lemmas.Option.{same_Some}
 use Rattle.std.specs.Prelude.{◌==◌, ◌↔◌, IsTrue, Option, None, Some, option_map, option_and_then, is_some, unwrap_or}
 use Rattle.std.proofs.Common.{◌≡◌, ◌≢◌, ◌∙◌, ◌≤◌, ◌<◌, ℕ, zero, suc, true, false, List, [], ◌∷◌, ◌++◌, length, refl, ap, sym, subst, arith}
 use Rattle.std.specs.List.{list_all}
@@ -8,7 +9,7 @@ use Rattle.std.proofs.lemmas.List.{length-append, append-nil, append_assoc}
 use Rattle.sb_opcode.specs.Packing.{record_of, head_of, kind_words, packed, is_sized, PackingIsOneToOne}
 use Rattle.sb_opcode.specs.Unpacking.{first_record, unpacked, unpacked_within, is_packed, opcodes_of, PackingComesBack}
 use Rattle.sb_opcode.specs.Opcodes.{Opcode}
-use Rattle.sb_opcode.proofs.RecordLemmas.{none_is_not_some, same_some, unmapped, records_come_back, record_split}
+use Rattle.sb_opcode.proofs.RecordLemmas.{none_is_not_some, unmapped, records_come_back, record_split}
 
 -- what comes after the first record of words is shorter than the words
 pub record_shorter : (words : List ℕ) (r : Opcode × List ℕ) → first_record words ≡ Some r → length r.1 < length words
@@ -52,7 +53,7 @@ unthen f None y e = none_is_not_some y e
 unthen f (Some x) y e = (x, refl, e)
 
 nothing_packs : (ops : List Opcode) → Some [] ≡ Some ops → Packs [] ops
-nothing_packs ops e = subst (Packs []) (same_some [] ops e) (refl, refl)
+nothing_packs ops e = subst (Packs []) (same_Some [] ops e) (refl, refl)
 
 within_packs : (n : ℕ) (words : List ℕ) (ops : List Opcode) → unpacked_within n words ≡ Some ops → Packs words ops
 within_packs zero [] ops e = nothing_packs ops e
@@ -78,7 +79,7 @@ packing_comes_back words ops =
     (λ e. within_packs (length words) words ops e, λ p. ap unpacked (sym p.0) ∙ packed_back ops p.1)
 
 pub packing_is_one_to_one : PackingIsOneToOne
-packing_is_one_to_one a b ha hb e = same_some a b (sym (packed_back a ha) ∙ ap unpacked e ∙ packed_back b hb)
+packing_is_one_to_one a b ha hb e = same_Some a b (sym (packed_back a ha) ∙ ap unpacked e ∙ packed_back b hb)
 
 there : (o : Option (List Opcode)) → is_some o ≡ true → o ≡ Some (unwrap_or o [])
 there None h = absurd (false≢true h)

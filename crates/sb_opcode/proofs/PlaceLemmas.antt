@@ -1,14 +1,14 @@
 -- Each way of seeking a fragment finds the places where it fits.
-use Rattle.std.specs.Prelude.{Option, None, Some, option_and_then, is_some, unwrap_or, nat_le, slice_index_or}
+use Rattle.std.specs.Prelude.{Option, None, Some, option_and_then, is_some, nat_le, slice_index_or}
 use Rattle.std.specs.Option.{option_or}
-use Rattle.std.proofs.Common.{◌≡◌, ◌∙◌, ◌≤◌, ◌<◌, ℕ, ◌+◌, ◌-◌, zero, suc, Bool, true, false, cond, List, [], ◌∷◌, ◌++◌, length, drop, map, refl, ap, sym, subst, arith}
+use Rattle.std.proofs.Common.{◌≡◌, ◌∙◌, ◌≤◌, ◌<◌, ℕ, ◌+◌, ◌-◌, zero, suc, Bool, true, false, cond, List, [], ◌∷◌, ◌++◌, length, drop, refl, ap, sym, subst, arith}
 use Rattle.std.proofs.Math.Seq.{drop-nil}
 use Rattle.std.proofs.lemmas.Bool.{false≢true, le-leb, leb-true}
-use Rattle.std.proofs.lemmas.List.{drop-drop, drop_all, get_or-drop, length-append, length-drop, length-map}
+use Rattle.std.proofs.lemmas.Option.{same_Some}
+use Rattle.std.proofs.lemmas.List.{drop-drop, drop_all, get_or-drop, length-append, length-drop}
 use Rattle.sb_rule.specs.declared.cells.Cell.{Cell}
 use Rattle.sb_rule.specs.declared.cells.Cell.TheVariants.{One, Any}
 use Rattle.sb_opcode.specs.Options.{has, FOLD}
-use Rattle.sb_opcode.specs.Unpacking.{cell_of}
 use Rattle.sb_opcode.specs.declared.opcodes.Seek.TheVariants.{Skip}
 use Rattle.sb_opcode.specs.Fragments.{unit_fits, after_fragment, after_first, after_end, after_seek, at_end}
 use Rattle.sb_opcode.specs.Meaning.{after_text}
@@ -17,16 +17,13 @@ use Rattle.sb_opcode.specs.Places.{FitsAt, FirstFitsAt, SkipLeavesWhatFollows, F
 none_is_not_some : {A : Type 0} {P : Type 0} (x : A) → None ≡ Some x → P
 none_is_not_some x e = absurd (false≢true (ap is_some e))
 
-same_some : {A : Type 0} (x y : A) → Some x ≡ Some y → x ≡ y
-same_some x y e = ap (λ o. unwrap_or o x) e
-
 -- a fragment fits the front of a string
 abbrev Fits : Bool → List Cell → List ℕ → Type 0
 Fits fold cells us = (length cells ≤ length us) × ((i : ℕ) → i < length cells → unit_fits fold (slice_index_or cells i One) (slice_index_or us i 0) ≡ true)
 
 -- and leaves what follows it
 front : (fold : Bool) (cells : List Cell) (us rest : List ℕ) → after_fragment fold cells us ≡ Some rest → Fits fold cells us × (drop (length cells) us ≡ rest)
-front fold [] us rest e = ((omega arith, (λ i h. absurd (omega (arith, h)))), same_some us rest e)
+front fold [] us rest e = ((omega arith, (λ i h. absurd (omega (arith, h)))), same_Some us rest e)
 front fold (c ∷ cells) [] rest e = none_is_not_some rest e
 front fold (c ∷ cells) (u ∷ us) rest e = by (unit_fits fold c u) refl e (front fold cells us rest)
   where
@@ -91,57 +88,6 @@ skip_leaves fold cells us rest n = (to (nat_le n (length us)) refl, there)
         (λ i. option_and_then (after_fragment fold cells) (cond (inside i) (Some (drop n us)) None))
         ∙ back fold cells (drop n us) l.1 ∙ ap Some (follows cells us n ∙ sym f.1)
 
--- a string does not end with a fragment at a place from which on it has more units or fewer
-pub never_ends : (fold : Bool) (cells : List Cell) (us : List ℕ) (n : ℕ) → (n + length cells ≡ length us → ⊥)
-    → at_end (after_seek (Skip n) fold cells us) ≡ None
-never_ends fold cells us n h = by (after_seek (Skip n) fold cells us) refl
-  where
-    by : (o : Option (List ℕ)) → after_seek (Skip n) fold cells us ≡ o → at_end o ≡ None
-    by None e = refl
-    by (Some []) e =
-        let f = (skip_leaves fold cells us [] n).0 e in
-        let less : length (drop (n + length cells) us) ≡ length us - (n + length cells) = length-drop (n + length cells) us in
-        absurd (h (omega (arith, f.0.0, ap length f.1, less)))
-    by (Some (u ∷ rest)) e = refl
-
-pub ends_not : (fold : Bool) (words us : List ℕ) (n : ℕ) → (n + length words ≡ length us → ⊥)
-    → at_end (after_seek (Skip n) fold (map cell_of words) us) ≡ None
-ends_not fold words us n h =
-    let same : length (map cell_of words) ≡ length words = length-map words cell_of in
-    never_ends fold (map cell_of words) us n (λ e. h (omega (arith, e, same)))
-
--- a fragment is not at the front of a string that is too short, or whose unit at the place of the last cell does not fit
-none_either : {X : Type 0} (b : Bool) (x : Option X) → x ≡ None → cond b x None ≡ None
-none_either true x e = e
-none_either false x e = refl
-
-pub misfits : (fold : Bool) (words us : List ℕ) (n : ℕ) → n + 1 ≡ length words
-    → (n < length us → unit_fits fold (cell_of (slice_index_or words n 0)) (slice_index_or us n 0) ≡ false) → after_fragment fold (map cell_of words) us ≡ None
-misfits fold [] us n e h = absurd (omega (arith, e))
-misfits fold (w ∷ words) [] n e h = refl
-misfits fold (w ∷ words) (u ∷ us) zero e h = ap (λ b. cond b (after_fragment fold (map cell_of words) us) None) (h (omega arith))
-misfits fold (w ∷ words) (u ∷ us) (suc n) e h =
-    none_either (unit_fits fold (cell_of w) u) (after_fragment fold (map cell_of words) us)
-    (misfits fold words us n (omega (arith, e)) (λ g. h (omega (arith, g))))
-
-whole : (n : ℕ) → 0 < n → n - 1 + 1 ≡ n
-whole n h = omega (arith, h)
-
-pub too_short : (fold : Bool) (words us : List ℕ) → 0 < length words → length us ≤ length words - 1 → after_fragment fold (map cell_of words) us ≡ None
-too_short fold words us some short =
-    misfits fold words us (length words - 1) (whole (length words) some) (λ g. absurd (omega (arith, g, short)))
-
-pub last_misfits : (fold : Bool) (words us : List ℕ) → 0 < length words
-    → unit_fits fold (cell_of (slice_index_or words (length words - 1) 0)) (slice_index_or us (length words - 1) 0) ≡ false
-    → after_fragment fold (map cell_of words) us ≡ None
-last_misfits fold words us some h = misfits fold words us (length words - 1) (whole (length words) some) (λ g. h)
-
--- a fragment without cells is at the front
-pub no_cells : (fold : Bool) (words us : List ℕ) → length words ≡ 0 → after_first fold (map cell_of words) us ≡ Some us
-no_cells fold [] [] h = refl
-no_cells fold [] (u ∷ us) h = refl
-no_cells fold (w ∷ words) us h = absurd (omega (arith, h))
-
 -- the first place
 abbrev First : Bool → List Cell → List ℕ → ℕ → Type 0
 First fold cells us n = (n ≤ length us) × Fits fold cells (drop n us) × ((m : ℕ) → m < n → Fits fold cells (drop m us) → ⊥)
@@ -158,7 +104,7 @@ taken fold cells (u ∷ us) rest e = by (after_fragment fold cells (u ∷ us)) r
         → (n : ℕ) × First fold cells (u ∷ us) n × (drop (length cells) (drop n (u ∷ us)) ≡ rest)
     by (Some left) h e later =
         let q = front fold cells (u ∷ us) left h in
-        (0, (omega arith, q.0, (λ m less f. omega (arith, less))), q.1 ∙ same_some left rest e)
+        (0, (omega arith, q.0, (λ m less f. omega (arith, less))), q.1 ∙ same_Some left rest e)
     by None h e later =
         let p = later e in
         (suc p.0, (omega (arith, p.1.0), p.1.1, before p.0 p.1.2), p.2)
@@ -244,7 +190,7 @@ end_is_last fold cells us rest = (to (nat_le (length cells) (length us)) refl, t
 
 ended : (o : Option (List ℕ)) (rest : List ℕ) → at_end o ≡ Some rest → (o ≡ Some []) × (rest ≡ [])
 ended None rest e = none_is_not_some rest e
-ended (Some []) rest e = (refl, sym (same_some [] rest e))
+ended (Some []) rest e = (refl, sym (same_Some [] rest e))
 ended (Some (u ∷ us)) rest e = none_is_not_some rest e
 
 pub exact_leaves : ExactLeavesNothing

@@ -1,5 +1,6 @@
 -- A record is known from its own words.
-use Rattle.std.specs.Prelude.{Option, None, Some, option_map, is_some, unwrap_or}
+use Rattle.std.proofs.lemmas.Option.{same_Some}
+use Rattle.std.specs.Prelude.{Option, None, Some, option_map, is_some}
 use Rattle.std.proofs.Common.{◌≡◌, ◌∙◌, ◌≤◌, ◌<◌, ◌+◌, ◌*◌, ◌/◌, ◌^◌, ℕ, Bool, true, false, cond, List, [], ◌∷◌, ◌++◌, ◌&&◌, eqb, ltb, length, take, drop, map, refl, ap, sym, subst, arith}
 use Rattle.std.specs.Prelude.{nat_le, nat_lt, not}
 use Rattle.std.specs.List.{list_all}
@@ -23,13 +24,10 @@ use Rattle.sb_opcode.specs.declared.opcodes.Seek.TheVariants.{Skip, Forward, ToE
 pub none_is_not_some : {A : Type 0} {P : Type 0} (x : A) → None ≡ Some x → P
 none_is_not_some x e = absurd (false≢true (ap is_some e))
 
-pub same_some : {A : Type 0} (x y : A) → Some x ≡ Some y → x ≡ y
-same_some x y e = ap (λ o. unwrap_or o x) e
-
 -- what an option was before it was mapped
 pub unmapped : {A B : Type 0} (f : A → B) (o : Option A) (y : B) → option_map f o ≡ Some y → (x : A) × (o ≡ Some x) × (f x ≡ y)
 unmapped f None y e = none_is_not_some y e
-unmapped f (Some x) y e = (x, refl, same_some (f x) y e)
+unmapped f (Some x) y e = (x, refl, same_Some (f x) y e)
 
 -- cells and their words
 cell_back : (c : Cell) → is_sized_cell c ≡ true → cell_of (cell_word c) ≡ c
@@ -116,10 +114,7 @@ plain_back k o p a b later kind hk h5 ho hp e =
 
 action_back : (a : Action) → action_of (action_number a) ≡ Some a
 action_back Allow = refl
-action_back Deny = refl
-action_back Alarm = refl
-action_back Fake = refl
-action_back ReadOnly = refl
+action_back _ = refl
 
 act_back : (a : Action) (line : ℕ) → nat_lt line (2 ^ 32) ≡ true → plain_kind 6 (action_number a) line ≡ Some (Act a line)
 act_back a line h = rw (h, action_back a) refl
@@ -186,7 +181,7 @@ action_known : (n : ℕ) (a : Action) → action_of n ≡ Some a → action_numb
 action_known n a e = by (eqb n 0) (eqb n 1) (eqb n 2) (eqb n 3) (eqb n 4) refl refl refl refl refl e
   where
     known : (b : Action) → action_number b ≡ n → Some b ≡ Some a → action_number a ≡ n
-    known b h e = ap action_number (sym (same_some b a e)) ∙ h
+    known b h e = ap action_number (sym (same_Some b a e)) ∙ h
 
     by : (s t u v w : Bool) → eqb n 0 ≡ s → eqb n 1 ≡ t → eqb n 2 ≡ u → eqb n 3 ≡ v → eqb n 4 ≡ w
         → cond s (Some Allow) (cond t (Some Deny) (cond u (Some Alarm) (cond v (Some Fake) (cond w (Some ReadOnly) None)))) ≡ Some a → action_number a ≡ n
@@ -203,7 +198,7 @@ plain_known k a b kind e =
     refl refl refl refl refl refl e
   where
     known : (other : OpKind) → PlainOf k a b other → Some other ≡ Some kind → PlainOf k a b kind
-    known other h e = subst (PlainOf k a b) (same_some other kind e) h
+    known other h e = subst (PlainOf k a b) (same_Some other kind e) h
 
     three : (n : ℕ) → (eqb k n && eqb a 0 && eqb b 0) ≡ true → (k ≡ n) × (a ≡ 0) × (b ≡ 0)
     three n h =
@@ -249,7 +244,7 @@ seek_known h seek e =
     refl refl refl e
   where
     known : (other : Seek) → SeekOf h other → Some other ≡ Some seek → SeekOf h seek
-    known other p e = subst (SeekOf h) (same_some other seek e) p
+    known other p e = subst (SeekOf h) (same_Some other seek e) p
 
     by : (s t u : Bool) → (eqb (seek_part h) 0 && ltb (skip_part h) (2 ^ 16)) ≡ s → (eqb (seek_part h) 1 && eqb (skip_part h) 0) ≡ t
         → (eqb (seek_part h) 2 && eqb (skip_part h) 0) ≡ u

@@ -1,5 +1,5 @@
 // Codes: opcodes packed in words.
-ghost use Rattle.std.specs.Prelude.{◌≡◌, ◌+◌, ◌*◌, ◌<◌, ◌^◌, ◌++◌, ◌∷◌, ◌↔◌, [], true, IsTrue, length, map, take, vec_len, nat_lt, OnOk, OnErr};
+ghost use Rattle.std.specs.Prelude.{◌≡◌, ◌+◌, ◌*◌, ◌<◌, ◌^◌, ◌++◌, ◌∷◌, ◌↔◌, [], true, IsTrue, length, map, take, vec_len, nat_lt, IfOk, OnOk, OnErr};
 ghost use Rattle.std.specs.List.{list_all};
 ghost use Rattle.sb_opcode.specs.Packing.{cell_word, kind_number, seek_number, skip_number, kind_words, head_of, record_of, packed, is_sized, is_sized_kind, is_sized_cell};
 ghost use Rattle.sb_rule.specs.declared.cells.Cell.TheVariants.{Lit};
@@ -46,15 +46,39 @@ impl Model for Code {
     ghost invariant = { λ c. (is_packed c.words.items ≡ true) × (length (opcodes_of c.words.items) < 2 ^ 32) };
 }
 
+// The word of a cell.
 fn cell_word(cell: Cell) -> u64
-    ensures word { result ≡ cell_word cell }
-    ensures sized { is_sized_cell cell ≡ true }
+    ensures { cell_of result ≡ cell }
 {
     match cell {
         Cell::Lit(unit) => u64::from(unit),
         Cell::One => 65536,
         Cell::Any => 65537,
     }
+}
+
+// The words of cells.
+#[tactic(auto, using(crate::proofs::CellLemmas::cell_more))]
+fn cell_words(alloc: Global, cells: &[Cell]) -> Result<Vec<u64>, NoMemory>
+    ensures { IfOk result (λ words. map cell_of words.items ≡ cells.now) }
+{
+    let mut words = Vec::new(alloc);
+    for cell in cells {
+        words.push(cell_word(*cell))?;
+    }
+    Ok(words)
+}
+
+// The words of units, each of which matches itself.
+#[tactic(auto, using(crate::proofs::CellLemmas::unit_more))]
+fn unit_words(alloc: Global, units: &[u16]) -> Result<Vec<u64>, NoMemory>
+    ensures { IfOk result (λ words. map cell_of words.items ≡ map Lit units.now) }
+{
+    let mut words = Vec::new(alloc);
+    for unit in units {
+        words.push(cell_word(Cell::Lit(*unit)))?;
+    }
+    Ok(words)
 }
 
 // The word of the cell that a word is.
@@ -117,13 +141,6 @@ fn head_of(opcode: &Opcode<'_>) -> u64
     }
 }
 
-// The first word of a text opcode with these options.
-fn text_head(options: Options, seek: Seek) -> u64
-    ensures { result ≡ 5 + options.0 * 2 ^ 8 + (seek_number seek * 2 ^ 16 + skip_number seek * 2 ^ 32) }
-{
-    head(5, options.bits(), seek_number(seek), skip_number(seek))
-}
-
 // The number of a skip has 16 bits. It does nothing.
 fn seek_is_sized(seek: Seek)
     ensures { nat_lt (skip_number seek) 65536 ≡ true }
@@ -149,17 +166,6 @@ fn push_two(words: &mut Vec<u64>, first: u64, second: u64) -> Result<(), NoMemor
     Ok(())
 }
 
-fn push_cells(words: &mut Vec<u64>, cells: &[Cell]) -> Result<(), NoMemory>
-    ensures ok { OnOk result (words.new.items ≡ words.old.items ++ map cell_word cells.now) }
-    ensures sized { OnOk result (list_all is_sized_cell cells.now ≡ true) }
-    ensures err { OnErr result (take (vec_len words.old) words.new.items ≡ words.old.items) }
-{
-    for cell in cells {
-        words.push(cell_word(*cell))?;
-    }
-    Ok(())
-}
-
 // Appends the cells that words are.
 fn push_words(words: &mut Vec<u64>, cells: &[u64]) -> Result<(), NoMemory>
     ensures ok { OnOk result (words.new.items ≡ words.old.items ++ map cell_word (map cell_of cells.now)) }
@@ -168,18 +174,6 @@ fn push_words(words: &mut Vec<u64>, cells: &[u64]) -> Result<(), NoMemory>
 {
     for cell in cells {
         words.push(same_cell_word(*cell))?;
-    }
-    Ok(())
-}
-
-// Appends units, each of which matches itself.
-fn push_units(words: &mut Vec<u64>, units: &[u16]) -> Result<(), NoMemory>
-    ensures ok { OnOk result (words.new.items ≡ words.old.items ++ map cell_word (map Lit units.now)) }
-    ensures sized { OnOk result (list_all is_sized_cell (map Lit units.now) ≡ true) }
-    ensures err { OnErr result (take (vec_len words.old) words.new.items ≡ words.old.items) }
-{
-    for unit in units {
-        words.push(cell_word(Cell::Lit(*unit)))?;
     }
     Ok(())
 }
@@ -200,7 +194,7 @@ fn push_kind(words: &mut Vec<u64>, kind: &OpKind<'_>) -> Result<(), NoMemory>
             push_words(words, cells)?;
             Ok(())
         }
-        OpKind::Act { action, line } => push_two(words, action.number(), u64::from(*line)),
+        OpKind::Act { action, line } => push_two(words, *action as u64, u64::from(*line)),
     }
 }
 
@@ -212,35 +206,6 @@ fn push_opcode(words: &mut Vec<u64>, opcode: &Opcode<'_>) -> Result<(), NoMemory
     numbers_are_sized(opcode.param, opcode.options);
     push_two(words, head_of(opcode), u64::from(opcode.param))?;
     push_kind(words, &opcode.kind)?;
-    Ok(())
-}
-
-fn push_text(words: &mut Vec<u64>, look: Look, seek: Seek, cells: &[Cell]) -> Result<(), NoMemory>
-    ensures ok { OnOk result (words.new.items ≡ words.old.items ++ record_of (text_opcode look cells.now seek)) }
-    ensures sized { OnOk result (is_sized (text_opcode look cells.now seek) ≡ true) }
-    ensures err { OnErr result (take (vec_len words.old) words.new.items ≡ words.old.items) }
-{
-    numbers_are_sized(look.param, look.options);
-    seek_is_sized(seek);
-    push_two(words, text_head(look.options, seek), u64::from(look.param))?;
-    push_two(words, cells.len() as u64, 0)?;
-    push_cells(words, cells)?;
-    Ok(())
-}
-
-fn push_string(words: &mut Vec<u64>, look: Look, units: &[u16]) -> Result<(), NoMemory>
-    ensures ok { OnOk result (words.new.items ≡ words.old.items ++ record_of (text_opcode look (map Lit units.now) (Skip 0))) }
-    ensures sized { OnOk result (is_sized (text_opcode look (map Lit units.now) (Skip 0)) ≡ true) }
-    ensures err { OnErr result (take (vec_len words.old) words.new.items ≡ words.old.items) }
-{
-    numbers_are_sized(look.param, look.options);
-    push_two(
-        words,
-        text_head(look.options, Seek::Skip(0)),
-        u64::from(look.param),
-    )?;
-    push_two(words, units.len() as u64, 0)?;
-    push_units(words, units)?;
     Ok(())
 }
 
@@ -295,8 +260,7 @@ impl Code {
         }
     }
 
-    #[tactic(auto, using(crate::proofs::PackingLemmas::pushed_opcodes))]
-    /// Appends a text opcode with these cells, which go straight into the words. After an error the code is as it was.
+    /// Appends a text opcode with these cells. After an error the code is as it was.
     ///
     /// # Errors
     /// `NoMemory` if there was none for the opcode's words.
@@ -305,17 +269,19 @@ impl Code {
         ensures ok { OnOk result (self.new ≡ self.old ++ text_opcode look cells.now seek ∷ []) }
         ensures err { OnErr result (self.new ≡ self.old) }
     {
-        let before = self.words.len();
-        match push_text(&mut self.words, look, seek, cells) {
-            Ok(()) => Ok(()),
-            Err(error) => {
-                self.words.truncate(before);
-                Err(error)
-            }
-        }
+        let cells = cell_words(*self.words.allocator(), cells)?;
+        let kind = OpKind::Text {
+            cells: &cells,
+            seek,
+        };
+        let Look { param, options } = look;
+        self.push(Opcode {
+            kind,
+            param,
+            options,
+        })
     }
 
-    #[tactic(auto, using(crate::proofs::PackingLemmas::pushed_opcodes))]
     /// Appends a text opcode whose fragment is this string and is compared at the position. After an error the code is as it was.
     ///
     /// # Errors
@@ -325,14 +291,17 @@ impl Code {
         ensures ok { OnOk result (self.new ≡ self.old ++ text_opcode look (map Lit units.now) (Skip 0) ∷ []) }
         ensures err { OnErr result (self.new ≡ self.old) }
     {
-        let before = self.words.len();
-        match push_string(&mut self.words, look, units) {
-            Ok(()) => Ok(()),
-            Err(error) => {
-                self.words.truncate(before);
-                Err(error)
-            }
-        }
+        let cells = unit_words(*self.words.allocator(), units)?;
+        let kind = OpKind::Text {
+            cells: &cells,
+            seek: Seek::Skip(0),
+        };
+        let Look { param, options } = look;
+        self.push(Opcode {
+            kind,
+            param,
+            options,
+        })
     }
 
     #[tactic(auto, using(crate::proofs::PackingLemmas::packing_of_opcodes))]

@@ -1,8 +1,7 @@
 // What one opcode leaves of an argument.
-ghost use Rattle.std.specs.Prelude.{◌≡◌, Bool, false, None, map, option_map};
+ghost use Rattle.std.specs.Prelude.{◌≡◌, map, option_map};
 ghost use Rattle.sb_opcode.specs.Records.{kind_of, opcode_of};
 ghost use Rattle.sb_opcode.specs.Unpacking.{cell_of};
-ghost use Rattle.sb_opcode.specs.Fragments.{after_seek, at_end};
 ghost use Rattle.sb_opcode.specs.Meaning.{number_holds, after_text, units_left, after_opcode};
 ghost use Rattle.sb_opcode.specs.Walking.{arg_from};
 
@@ -31,18 +30,6 @@ fn number_holds(opcode: &Opcode<'_>, value: u64) -> bool
     }
 }
 
-// Whether a string may end with a fragment that is found where it is sought, by their lengths.
-#[inline(always)]
-fn may_end(seek: Seek, cells: &[u64], units: &[u16]) -> bool
-    ensures { result ≡ false → (fold : Bool) → at_end (after_seek seek fold (map cell_of cells.now) units.now) ≡ None }
-{
-    match seek {
-        Seek::Skip(count) => units.len() >= cells.len()
-            && units.len() - cells.len() == count as usize,
-        Seek::Forward | Seek::ToEnd => true,
-    }
-}
-
 #[inline(always)]
 fn after_text<'a>(
     cells: &[u64],
@@ -52,14 +39,12 @@ fn after_text<'a>(
 ) -> Option<&'a [u16]>
     ensures { option_map (λ us. us.now) result ≡ after_text (map cell_of cells.now) seek options units.now }
 {
-    let folding = options.contains(Options::FOLD);
-    if !options.contains(Options::EXACT) {
-        return after_seek(seek, folding, cells, units);
+    let left = after_seek(seek, options.contains(Options::FOLD), cells, units);
+    if options.contains(Options::EXACT) {
+        at_end(left?)
+    } else {
+        left
     }
-    if !may_end(seek, cells, units) {
-        return None;
-    }
-    at_end(after_seek(seek, folding, cells, units)?)
 }
 
 #[inline(always)]

@@ -18,7 +18,6 @@ mod rules;
 mod states;
 mod verified;
 mod walks;
-mod words;
 
 pub use codes::Code;
 pub use faults::{CodeFault, WordsFault};
@@ -27,6 +26,5 @@ pub use opcodes::{Look, OpKind, Opcode, Seek};
 pub use options::Options;
 pub use records::Records;
 pub use rules::RuleCodes;
-pub use verified::{Verified, VerifyRefused, WordsRefused, verify, verify_words};
+pub use verified::{Verified, VerifyRefused, WordList, WordsRefused, verify, verify_words};
 pub use walks::eval;
-pub use words::WordList;

@@ -57,12 +57,7 @@ fn is_plain_kind(kind: u64, first: u64, second: u64) -> bool
 fn are_cells(words: &[u64]) -> bool
     ensures { result ≡ list_all is_cell_word words.now }
 {
-    for word in words {
-        if *word > LAST_CELL {
-            return false;
-        }
-    }
-    true
+    words.iter().all(|word| *word <= LAST_CELL)
 }
 
 fn after_plain(head: u64, param: u64, first: u64, second: u64, later: &[u64]) -> Option<&[u64]>

@@ -8,9 +8,12 @@ ghost use Rattle.sb_opcode.specs.Packing.{packed, is_sized};
 use crate::checks::fault_of;
 use crate::codes::{Code, code_of, is_packed};
 use crate::faults::{CodeFault, WordsFault};
-use crate::words::WordList;
+use sb_base::Items;
 use sb_call::CallTag;
 use std::marker::Model;
+
+/// Words that were to be a code.
+pub type WordList = Items<u64>;
 
 /// A code without a fault for the calls of one tag.
 pub struct Verified {

@@ -86,7 +86,7 @@ fn walk_rule(records: &mut Records<'_>, args: &[Arg]) -> Verdict
     Verdict::NoRule
 }
 
-// The same for packed words. It is no part of the code for rules of lone tests, which needs no room for a state.
+// The same for packed words. It is not inlined, so that the walk of lone tests has a small frame.
 #[inline(never)]
 fn walk_states(words: &[u64], args: &[Arg]) -> Verdict
     requires { is_packed words.now ≡ true }

@@ -1,5 +1,6 @@
 -- What is read in pieces is what there was.
-use Rattle.std.proofs.Common.{arith, ◌≡◌, ◌∙◌, ℕ, ◌<◌, List, [], ◌++◌, length, Option, None, Some, refl, sym, ap, subst, append-nil, append_assoc}
+use Rattle.std.proofs.KnownBytes.{Consumes-trans}
+use Rattle.std.proofs.Common.{arith, ◌≡◌, ◌∙◌, ℕ, ◌<◌, List, [], ◌++◌, length, Option, None, Some, refl, sym, ap, subst, append-nil}
 use Rattle.std.specs.Prelude.{IfSome}
 use Rattle.std.specs.Io.KnownBytes.{Consumes, IsAtEnd, Keeps}
 use Rattle.std.proofs.lemmas.List.{length-append}
@@ -16,14 +17,8 @@ nothing_consumed (Some xs) (Some ys) h = sym h
 pub reads_none : (old new : Option (List ℕ)) (before : List ℕ) → Keeps old new → Reads old before new before
 reads_none old new before h = ([], sym (append-nil before), nothing_consumed old new h)
 
-consumes_on : (all old new : Option (List ℕ)) (before part : List ℕ) → Consumes all old before → Consumes old new part → Consumes all new (before ++ part)
-consumes_on None old new before part h k = tt
-consumes_on (Some xs) None new before part h k = absurd h
-consumes_on (Some xs) (Some ys) None before part h k = k
-consumes_on (Some xs) (Some ys) (Some zs) before part h k = h ∙ ap (λ rest. before ++ rest) k ∙ sym (append_assoc before part zs)
-
 pub reads_on : (all old new : Option (List ℕ)) (before after : List ℕ) → Consumes all old before → Reads old before new after → Consumes all new after
-reads_on all old new before after h (part, e, k) = subst (λ bytes. Consumes all new bytes) (sym e) (consumes_on all old new before part h k)
+reads_on all old new before after h (part, e, k) = subst (λ bytes. Consumes all new bytes) (sym e) (Consumes-trans all old new before part h k)
 
 pub reads_all : (all new : Option (List ℕ)) (bytes : List ℕ) → Consumes all new bytes → IsAtEnd new → IfSome all (λ xs. bytes ≡ xs)
 reads_all None new bytes h e = tt

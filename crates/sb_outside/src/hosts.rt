@@ -233,10 +233,8 @@ impl<W: Write + Drop> HostSink<W> {
         ensures failed { OnErr result (self.new.faults ≡ next_count self.old.faults) }
         ensures counted { self.old.faults ≤ self.new.faults }
     {
-        match self.write_pending() {
-            Ok(()) => write_to(&mut self.writer, &mut self.faults, bytes),
-            Err(fault) => Err(fault),
-        }
+        self.write_pending()?;
+        write_to(&mut self.writer, &mut self.faults, bytes)
     }
 
     // Holds back bytes that are fewer than a piece lacks. The room for a piece was reserved; without it all is written.
@@ -253,57 +251,6 @@ impl<W: Write + Drop> HostSink<W> {
         match self.pending.extend_from_slice(bytes) {
             Ok(()) => Ok(()),
             Err(_) => self.write_behind(bytes),
-        }
-    }
-
-    // Fills a piece with these bytes, and writes it.
-    #[tactic(auto, using(crate::proofs::Passing::gives_left))]
-    fn fill_piece(&mut self, bytes: &[u8]) -> Result<(), SinkFault>
-        ensures gives { OnOk result (Gives (W.contents self.old.writer) (self.old.pending.items ++ bytes.now)
-            (W.contents self.new.writer) self.new.pending.items) }
-        ensures emptied { OnOk result (self.new.pending.items ≡ []) }
-        ensures piece { self.new.piece ≡ self.old.piece }
-        ensures ok_count { OnOk result (self.new.faults ≡ self.old.faults) }
-        ensures failed { OnErr result (self.new.faults ≡ next_count self.old.faults) }
-        ensures counted { self.old.faults ≤ self.new.faults }
-    {
-        match self.hold(bytes) {
-            Ok(()) => self.write_pending(),
-            Err(fault) => Err(fault),
-        }
-    }
-
-    // Holds bytes back if they are fewer than a piece, where nothing is pending, and else writes them.
-    fn begin_piece(&mut self, bytes: &[u8]) -> Result<(), SinkFault>
-        requires { self.old.pending.items ≡ [] }
-        ensures gives { OnOk result (Gives (W.contents self.old.writer) (self.old.pending.items ++ bytes.now)
-            (W.contents self.new.writer) self.new.pending.items) }
-        ensures short { OnOk result (length self.new.pending.items ≤ self.old.piece - 1) }
-        ensures piece { self.new.piece ≡ self.old.piece }
-        ensures ok_count { OnOk result (self.new.faults ≡ self.old.faults) }
-        ensures failed { OnErr result (self.new.faults ≡ next_count self.old.faults) }
-        ensures counted { self.old.faults ≤ self.new.faults }
-    {
-        if bytes.len() < self.piece {
-            return self.hold(bytes);
-        }
-        self.write_behind(bytes)
-    }
-
-    // Fills a piece with the first bytes and writes it, and begins the next with the others.
-    #[tactic(auto, using(crate::proofs::Passing::gives_more))]
-    fn put_across(&mut self, front: &[u8], rest: &[u8]) -> Result<(), SinkFault>
-        ensures gives { OnOk result (Gives (W.contents self.old.writer) (self.old.pending.items ++ (front.now ++ rest.now))
-            (W.contents self.new.writer) self.new.pending.items) }
-        ensures short { OnOk result (length self.new.pending.items ≤ self.old.piece - 1) }
-        ensures piece { self.new.piece ≡ self.old.piece }
-        ensures ok_count { OnOk result (self.new.faults ≡ self.old.faults) }
-        ensures failed { OnErr result (self.new.faults ≡ next_count self.old.faults) }
-        ensures counted { self.old.faults ≤ self.new.faults }
-    {
-        match self.fill_piece(front) {
-            Ok(()) => self.begin_piece(rest),
-            Err(fault) => Err(fault),
         }
     }
 }
@@ -331,7 +278,7 @@ impl<W: Write + Drop> Sink for HostSink<W> {
 
     ghost faults = { λ h. h.faults };
 
-    #[tactic(auto, using(crate::proofs::Passing::grows_unknown))]
+    #[tactic(auto, using(crate::proofs::Passing::gives_across, crate::proofs::Passing::grows_unknown))]
     fn put(&mut self, bytes: &[u8]) -> Result<(), SinkFault>
         // A writer that tells its bytes has the first that were due, and the others are pending: fewer than a piece.
         ensures gives { OnOk result (Gives (W.contents self.old.writer) (self.old.pending.items ++ bytes.now)
@@ -347,7 +294,13 @@ impl<W: Write + Drop> Sink for HostSink<W> {
             return self.hold(bytes);
         }
         let (front, rest) = bytes.split_at(room);
-        self.put_across(front, rest)
+        self.hold(front)?;
+        self.write_pending()?;
+        if rest.len() < self.piece {
+            self.hold(rest)
+        } else {
+            self.write_behind(rest)
+        }
     }
 
     fn finish(&mut self) -> Result<(), SinkFault>

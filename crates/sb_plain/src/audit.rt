@@ -18,7 +18,7 @@ use sb_text::{RawLines, TextPart};
 use std::alloc::Global;
 
 /// The most bytes that a transcript may have.
-const MOST_TRANSCRIPT_BYTES: u64 = 536_870_912;
+const MAX_TRANSCRIPT_BYTES: u64 = 536_870_912;
 
 // The line of this number, from 1, as it is between LFs.
 fn raw_line(number: u32, text: &[u8]) -> Option<&[u8]>
@@ -98,7 +98,7 @@ fn answer_in<F: Files>(
     ensures files { KeepsFiles IsCausedBy F.held F.faults files.old files.new result }
     ensures read { IsRead (λ line. line.items) 3 (answer_in ready.now.policies ready.now.script) (F.held files.old) name.now result }
 {
-    let text = text_within(alloc, files, name, 3, MOST_TRANSCRIPT_BYTES)?;
+    let text = text_within(alloc, files, name, 3, MAX_TRANSCRIPT_BYTES)?;
     answer_to(alloc, ready, &text)
 }
 

@@ -17,12 +17,12 @@ use sb_book::OpenedScript;
 use sb_outside::{FileFault, Files};
 use sb_rule::WellMadePolicies;
 use sb_ruletext::{TextRefused, read_noted_policies, read_policies};
-use sb_scripttext::{MOST_ROUNDS, ScheduleRefused, ScriptRefused, read_schedule, read_script};
+use sb_scripttext::{MAX_ROUNDS, ScheduleRefused, ScriptRefused, read_schedule, read_script};
 use sb_statements::{Schedule, Script, Steps};
 use std::alloc::Global;
 
 /// The most bytes that a file may have.
-const MOST_BYTES: u64 = 4_194_304;
+const MAX_BYTES: u64 = 4_194_304;
 
 // The refusal for a fault of file `which`.
 fn refused_by(fault: FileFault, which: u8) -> Refused
@@ -65,7 +65,7 @@ pub fn text_in<F: Files>(
     ensures read { IsRead (λ text. text.items) which (text_in which) (F.held files.old) name.now result }
     ensures short { IfOk result (λ text. length text.items ≤ most_bytes) }
 {
-    text_within(alloc, files, name, which, MOST_BYTES)
+    text_within(alloc, files, name, which, MAX_BYTES)
 }
 
 // The refusal of a text of which no policies were read.
@@ -187,7 +187,7 @@ pub fn no_schedule(alloc: Global) -> Schedule
 {
     Schedule {
         steps: Steps::new(Vec::new(alloc)),
-        rounds: MOST_ROUNDS,
+        rounds: MAX_ROUNDS,
     }
 }
 

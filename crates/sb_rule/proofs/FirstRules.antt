@@ -1,7 +1,7 @@
 -- The first rule that holds.
 use Rattle.std.specs.List.{list_all}
-use Rattle.std.proofs.Common.{◌≡◌, ◌∙◌, ℕ, Bool, true, false, cond, List, [], ◌∷◌, ◌++◌, ◌||◌, ◌&&◌, eqb, refl, ap, sym}
-use Rattle.std.proofs.lemmas.Bool.{false≢true}
+use Rattle.std.proofs.Common.{◌≡◌, ◌∙◌, ℕ, Bool, true, false, cond, List, [], ◌∷◌, ◌++◌, ◌||◌, ◌&&◌, eqb, refl, ap}
+use Rattle.std.proofs.lemmas.Bool.{false≢true, or_parts}
 use Rattle.std.proofs.lemmas.Bool.Decides.{Decides-eqb}
 use Rattle.sb_call.specs.Tags.{number_of}
 use Rattle.sb_call.specs.declared.arguments.Arg.{Arg}
@@ -12,14 +12,10 @@ use Rattle.sb_rule.specs.declared.policies.Rule.{Rule}
 use Rattle.sb_rule.specs.declared.verdicts.Verdict.{Verdict}
 use Rattle.sb_rule.specs.declared.verdicts.Verdict.TheVariants as verdict
 
-neither : (a b : Bool) → (a || b) ≡ false → (a ≡ false) × (b ≡ false)
-neither true b h = absurd (false≢true (sym h))
-neither false b h = (refl, h)
-
 pub first_rule_decides : FirstRuleDecides
 first_rule_decides [] rule after tag args none holds = ap (λ b. cond b (verdict_by_rule rule) (verdict_by after tag args)) holds
 first_rule_decides (r ∷ before) rule after tag args none holds =
-    let p = neither (rule_holds r tag args) (some_rule_holds before tag args) none in
+    let p = or_parts (rule_holds r tag args) (some_rule_holds before tag args) none in
     ap (λ b. cond b (verdict_by_rule r) (verdict_by (before ++ rule ∷ after) tag args)) p.0 ∙ first_rule_decides before rule after tag args p.1 holds
 
 abbrev is_rule : Verdict → Bool
@@ -81,7 +77,7 @@ none_step rule true s v h e = ap is_rule e
 none_step rule false s v h e = h e
 
 none_back : (rule : Rule) (b s : Bool) (v : Verdict) → (s ≡ false → v ≡ verdict.NoRule) → (b || s) ≡ false → cond b (verdict_by_rule rule) v ≡ verdict.NoRule
-none_back rule b s v h e = let p = neither b s e in ap (λ a. cond a (verdict_by_rule rule) v) p.0 ∙ h p.1
+none_back rule b s v h e = let p = or_parts b s e in ap (λ a. cond a (verdict_by_rule rule) v) p.0 ∙ h p.1
 
 none_holds : (rules : List Rule) (tag : CallTag) (args : List Arg) → verdict_by rules tag args ≡ verdict.NoRule → some_rule_holds rules tag args ≡ false
 none_holds [] tag args e = refl

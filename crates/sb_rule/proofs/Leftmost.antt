@@ -1,17 +1,13 @@
 -- The fault that reading reports is the leftmost.
 use Rattle.std.specs.Prelude.{Option, None, Some, Result, Ok, Err}
 use Rattle.std.proofs.Common.{◌≡◌, ◌∙◌, ◌≤◌, ◌<◌, ℕ, zero, suc, ◌+◌, Bool, true, false, cond, List, [], ◌∷◌, ◌&&◌, ◌||◌, eqb, ltb, length, refl, ap, sym, subst, arith}
-use Rattle.std.proofs.lemmas.Bool.{and_parts, eqb-true, false≢true}
+use Rattle.std.proofs.lemmas.Bool.{and_parts, eqb-true, false≢true, or_parts}
 use Rattle.std.proofs.lemmas.Bool.Decides.{nat_tests}
 use Rattle.sb_rule.specs.PatternLimits.{most_units}
 use Rattle.sb_rule.specs.PatternReading.{begins, star_fault, cells_of, unless, reading, is_star_before, is_bad_star, HasNoneBefore, IsFaultOf, FaultsAreLeftmost, FaultlessTextsAreRead}
 use Rattle.sb_rule.specs.declared.cells.Cell.{Cell}
 use Rattle.sb_rule.specs.declared.pattern_faults.PatternFault.{PatternFault}
 use Rattle.sb_rule.specs.declared.pattern_faults.PatternFault.TheVariants.{DoubleStar, StarQuestion, TooLong}
-
-neither : (a b : Bool) → (a || b) ≡ false → (a ≡ false) × (b ≡ false)
-neither true b h = absurd (false≢true (sym h))
-neither false b h = (refl, h)
 
 -- a unit that begins a text begins it alone
 begins_once : (us : List ℕ) → begins 63 us ≡ true → begins 42 us ≡ false
@@ -30,7 +26,7 @@ question_here n u us h =
 
 none_here : (n : ℕ) (u : ℕ) (us : List ℕ) → is_bad_star (u ∷ us) 0 ≡ false → star_fault n (u ∷ us) ≡ star_fault (n + 1) us
 none_here n u us h =
-    let p = neither (eqb u 42 && begins 42 us) (eqb u 42 && begins 63 us) h in
+    let p = or_parts (eqb u 42 && begins 42 us) (eqb u 42 && begins 63 us) h in
     λ i. cond (p.0 i) (Some (DoubleStar n)) (cond (p.1 i) (Some (StarQuestion n)) (star_fault (n + 1) us))
 
 none_left : (unit place : ℕ) → is_star_before unit [] place ≡ false

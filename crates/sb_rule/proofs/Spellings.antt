@@ -1,16 +1,12 @@
 -- Cells that may be spelled, and the texts that spell them.
 use Rattle.std.specs.Prelude.{Option, None, Some, not}
 use Rattle.std.proofs.Common.{◌≡◌, ◌∙◌, ℕ, ◌+◌, Bool, true, false, cond, List, [], ◌∷◌, ◌++◌, ◌&&◌, eqb, refl, ap, sym}
-use Rattle.std.proofs.lemmas.Bool.{and_parts, eqb-true, false≢true}
+use Rattle.std.proofs.lemmas.Bool.{and_parts, eqb-true, false≢true, not-true}
 use Rattle.sb_rule.specs.PatternReading.{cell_of, cells_of, text_of, begins, star_fault, begins_with_one, begins_wild, may_precede, is_spellable}
 use Rattle.sb_rule.specs.declared.cells.Cell.{Cell}
 use Rattle.sb_rule.specs.declared.cells.Cell.TheVariants.{Lit, One, Any}
 use Rattle.sb_rule.specs.declared.pattern_faults.PatternFault.{PatternFault}
 use Rattle.sb_rule.specs.declared.pattern_faults.PatternFault.TheVariants.{DoubleStar, StarQuestion}
-
-untrue : (b : Bool) → not b ≡ true → b ≡ false
-untrue true h = absurd (false≢true h)
-untrue false h = refl
 
 abbrev is_none : Option PatternFault → Bool
 is_none None = true
@@ -37,13 +33,13 @@ begins_question (Lit u ∷ cells) = by (eqb u 63) refl
 
 -- a literal that may be spelled is no `*`
 no_star : (u : ℕ) (later : List Cell) → is_spellable (Lit u ∷ later) ≡ true → eqb u 42 ≡ false
-no_star u later h = untrue (eqb u 42) (and_parts (not (eqb u 42)) _ (and_parts (may_precede (Lit u) later) (is_spellable later) h).0).0
+no_star u later h = not-true (eqb u 42) (and_parts (not (eqb u 42)) _ (and_parts (may_precede (Lit u) later) (is_spellable later) h).0).0
 
 -- a literal `/` does not come before `?`
 no_slash : (u : ℕ) (later : List Cell) → is_spellable (Lit u ∷ later) ≡ true → (eqb u 47 && begins 63 (text_of later)) ≡ false
 no_slash u later h =
     ap (λ b. eqb u 47 && b) (begins_question later)
-    ∙ untrue (eqb u 47 && begins_with_one later) (and_parts (not (eqb u 42)) _ (and_parts (may_precede (Lit u) later) (is_spellable later) h).0).1
+    ∙ not-true (eqb u 47 && begins_with_one later) (and_parts (not (eqb u 42)) _ (and_parts (may_precede (Lit u) later) (is_spellable later) h).0).1
 
 begins_star : (cells : List Cell) → is_spellable cells ≡ true → begins_wild cells ≡ false → begins 42 (text_of cells) ≡ false
 begins_star [] h w = refl
@@ -67,7 +63,7 @@ spelling_faultless [] n h = refl
 spelling_faultless (One ∷ later) n h = spelling_faultless later (n + 1) h
 spelling_faultless (Any ∷ later) n h =
     let p = and_parts (not (begins_wild later)) (is_spellable later) h in
-    let w = untrue (begins_wild later) p.0 in
+    let w = not-true (begins_wild later) p.0 in
     let star = begins_star later p.1 w in
     let question = begins_question later ∙ not_one later w in
     (λ i. cond (star i) (Some (DoubleStar n)) (cond (question i) (Some (StarQuestion n)) (star_fault (n + 1) (text_of later))))

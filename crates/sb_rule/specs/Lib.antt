@@ -4,7 +4,6 @@ pub mod Cells
 pub mod Chunks
 pub mod Limits
 pub mod Matching
-pub mod PatternFaults
 pub mod PatternLimits
 pub mod PatternReading
 pub mod Rows

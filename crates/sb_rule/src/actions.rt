@@ -1,6 +1,6 @@
-// What a rule does with a call.
+// What a rule does with a call, and the bits of an access to which `readonly` cuts.
 ghost use Rattle.std.specs.Prelude.{◌≡◌};
-ghost use Rattle.sb_rule.specs.Actions.{action_number, action_word};
+ghost use Rattle.sb_rule.specs.Actions.{action_word};
 
 /// What a rule does with a call. Each action has a number by which compiled rules name it.
 #[derive(Clone, Copy, PartialEq)]
@@ -18,12 +18,6 @@ pub enum Action {
 }
 
 impl Action {
-    /// The number of the action, from 0 to 4.
-    pub fn number(self) -> u64
-        ensures { result ≡ action_number self }
-    {
-        self as u64
-    }
     /// The word by which texts name the action, as `allow`.
     pub fn word(self) -> &'static [u8]
         ensures { result.now ≡ action_word self }
@@ -37,3 +31,10 @@ impl Action {
         }
     }
 }
+
+/// The bits of an access that only read: read data, execute, read EA, read attributes, read control, synchronize, and generic read and
+/// execute. A rule that says readonly grants no others.
+pub const READ_ONLY_BITS: u64 = 0xA012_00A9;
+
+/// All other bits of an access: those that write, delete or change, as in Chromium's Windows sandbox.
+pub const WRITING_BITS: u64 = 0x5FED_FF56;

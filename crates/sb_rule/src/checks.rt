@@ -11,34 +11,31 @@ ghost use Rattle.sb_base.specs.Wide.{is_text_unit};
 use crate::actions::Action;
 use crate::cells::Cell;
 use crate::conditions::{Cond, Test};
-use crate::limits::{MOST_CONDITIONS, MOST_NUMBERS, MOST_POLICIES, MOST_RULES};
-use crate::pattern_limits::MOST_UNITS;
+use crate::limits::{MAX_CONDITIONS, MAX_NUMBERS, MAX_POLICIES, MAX_RULES, MAX_UNITS};
 use crate::patterns::Pattern;
 use crate::policies::{Policies, Policy, Rule};
-use sb_base::{is_high_surrogate, is_low_surrogate, is_well_formed_utf16, walks_find_pairs};
+use sb_base::{
+    QUESTION, QUOTE, STAR, is_high_surrogate, is_low_surrogate, is_well_formed_utf16,
+    walks_find_pairs,
+};
 use sb_call::{CallTag, ShortName};
 
 fn is_text_unit(unit: u16) -> bool
     ensures { result ≡ is_text_unit unit }
 {
-    unit >= 32 && unit != 34
+    unit >= 32 && unit != QUOTE
 }
 
 fn are_text_units(units: &[u16]) -> bool
     ensures { result ≡ list_all is_text_unit units.now }
 {
-    for unit in units {
-        if !is_text_unit(*unit) {
-            return false;
-        }
-    }
-    true
+    units.iter().all(|unit| is_text_unit(*unit))
 }
 
 fn is_policy_text(units: &[u16]) -> bool
     ensures { result ≡ is_policy_text units.now }
 {
-    units.len() <= MOST_UNITS && are_text_units(units) && is_well_formed_utf16(units)
+    units.len() <= MAX_UNITS && are_text_units(units) && is_well_formed_utf16(units)
 }
 
 // The last unit of a cell's text. The only other one is the `/` before a question mark.
@@ -47,8 +44,8 @@ fn last_unit(cell: Cell) -> u16
 {
     match cell {
         Cell::Lit(unit) => unit,
-        Cell::One => 63,
-        Cell::Any => 42,
+        Cell::One => QUESTION,
+        Cell::Any => STAR,
     }
 }
 
@@ -95,7 +92,7 @@ fn is_sensible(test: &Test) -> bool
     ensures { result ≡ is_sensible test.now }
 {
     match test {
-        Test::OneOf(numbers) => numbers.len() > 0 && numbers.len() <= MOST_NUMBERS,
+        Test::OneOf(numbers) => numbers.len() > 0 && numbers.len() <= MAX_NUMBERS,
         Test::Range { lo, hi } => lo <= hi,
         Test::Mask(_) => true,
         Test::Equal(text) => is_policy_text(text.as_units()),
@@ -124,12 +121,7 @@ fn is_well_formed(tag: CallTag, cond: &Cond) -> bool
 fn are_well_formed(tag: CallTag, conds: &[Cond]) -> bool
     ensures { result ≡ list_all (is_well_formed tag) conds.now }
 {
-    for cond in conds {
-        if !is_well_formed(tag, cond) {
-            return false;
-        }
-    }
-    true
+    conds.iter().all(|cond| is_well_formed(tag, cond))
 }
 
 /// Whether a rule for this call may have this action: `readonly` is for calls that open alone.
@@ -146,7 +138,7 @@ pub fn is_for_readers(action: Action, tag: CallTag) -> bool
 fn is_well_made_rule(rule: &Rule) -> bool
     ensures { result ≡ is_well_made_rule rule.now }
 {
-    rule.conds.len() <= MOST_CONDITIONS
+    rule.conds.len() <= MAX_CONDITIONS
         && is_for_readers(rule.action, rule.tag)
         && are_well_formed(rule.tag, &rule.conds)
 }
@@ -166,18 +158,13 @@ fn are_well_made_rules(rules: &[Rule]) -> bool
 pub fn well_made(policy: &Policy) -> bool
     ensures { result ≡ is_well_made policy.now }
 {
-    policy.rules.len() <= MOST_RULES && are_well_made_rules(&policy.rules)
+    policy.rules.len() <= MAX_RULES && are_well_made_rules(&policy.rules)
 }
 
 fn is_named(policies: &[Policy], name: &ShortName) -> bool
     ensures { result ≡ list_any (is_named name.now) policies.now }
 {
-    for policy in policies {
-        if policy.name == *name {
-            return true;
-        }
-    }
-    false
+    policies.iter().any(|policy| policy.name == *name)
 }
 
 fn are_named_apart(policies: &[Policy]) -> bool
@@ -205,5 +192,5 @@ pub fn all_well_made(policies: &Policies) -> bool
     ensures { result ≡ are_well_made policies.now.list }
 {
     let list = &policies.list;
-    list.len() <= MOST_POLICIES && are_named_apart(list) && each_well_made(list)
+    list.len() <= MAX_POLICIES && are_named_apart(list) && each_well_made(list)
 }

@@ -1,6 +1,4 @@
 // Why a text is no pattern.
-ghost use Rattle.std.specs.Prelude.{◌≡◌};
-ghost use Rattle.sb_rule.specs.PatternFaults.{fault_number};
 
 use sb_base::Refused;
 use thiserror::Error;
@@ -17,19 +15,6 @@ pub enum PatternFault {
     /// The text has more than 256 units.
     #[error("more than 256 units")]
     TooLong,
-}
-
-impl PatternFault {
-    /// The number of the fault, from 1 to 3.
-    pub fn number(self) -> u64
-        ensures { result ≡ fault_number self }
-    {
-        match self {
-            PatternFault::DoubleStar(_) => 1,
-            PatternFault::StarQuestion(_) => 2,
-            PatternFault::TooLong => 3,
-        }
-    }
 }
 
 /// Why there is no pattern of a text: its fault, or no memory.

@@ -4,16 +4,10 @@ ghost use Rattle.sb_rule.specs.PatternLimits.{most_units};
 ghost use Rattle.sb_rule.specs.PatternReading.{cell_of, cell_text, cells_of, fault_of, star_fault, text_of};
 
 use crate::cells::Cell;
+use crate::limits::MAX_UNITS;
 use crate::pattern_faults::PatternFault;
-use crate::pattern_limits::MOST_UNITS;
-use sb_base::NoMemory;
+use sb_base::{NoMemory, QUESTION, SLASH, STAR};
 use std::alloc::Global;
-
-const STAR: u16 = 42;
-
-const SLASH: u16 = 47;
-
-const QUESTION: u16 = 63;
 
 fn star_fault(text: &[u16]) -> Option<PatternFault>
     requires { length text.now ≤ most_units }
@@ -39,7 +33,7 @@ fn star_fault(text: &[u16]) -> Option<PatternFault>
 pub(crate) fn fault_of(text: &[u16]) -> Option<PatternFault>
     ensures { result ≡ fault_of text.now }
 {
-    if text.len() > MOST_UNITS {
+    if text.len() > MAX_UNITS {
         return Some(PatternFault::TooLong);
     }
     star_fault(text)

@@ -5,7 +5,7 @@ ghost use Rattle.sb_rule.specs.Verdicts.{is_for};
 use crate::actions::Action;
 use crate::conditions::Conds;
 use sb_base::Items;
-use sb_call::{CallTag, ShortName, number_of};
+use sb_call::{CallTag, ShortName};
 use std::alloc::AllocError;
 
 /// A rule: for the calls of one tag for which all its conditions hold, an action.
@@ -25,7 +25,7 @@ impl Rule {
     pub fn is_for(&self, tag: CallTag) -> bool
         ensures { result ≡ is_for tag self.now }
     {
-        number_of(self.tag) == number_of(tag)
+        self.tag == tag
     }
 }
 

@@ -22,12 +22,7 @@ pub enum Verdict {
 fn is_one_of(numbers: &[u64], value: u64) -> bool
     ensures { result ≡ list_any (λ n. n == value) numbers.now }
 {
-    for number in numbers {
-        if *number == value {
-            return true;
-        }
-    }
-    false
+    numbers.iter().any(|number| *number == value)
 }
 
 fn test_holds(test: &Test, arg: &Arg) -> bool
@@ -46,7 +41,7 @@ fn test_holds(test: &Test, arg: &Arg) -> bool
     }
 }
 
-// A condition whose parameter is not there looks at the number 0.
+// A condition of a parameter that the call lacks tests the number 0.
 fn param_passes(cond: &Cond, args: &[Arg]) -> bool
     ensures { result ≡ test_holds cond.now.test (arg_at args.now cond.now.param) }
 {
@@ -65,12 +60,7 @@ fn cond_holds(cond: &Cond, args: &[Arg]) -> bool
 fn conds_hold(conds: &[Cond], args: &[Arg]) -> bool
     ensures { result ≡ list_all (λ cond. cond_holds cond args.now) conds.now }
 {
-    for cond in conds {
-        if !cond_holds(cond, args) {
-            return false;
-        }
-    }
-    true
+    conds.iter().all(|cond| cond_holds(cond, args))
 }
 
 fn rule_holds(rule: &Rule, tag: CallTag, args: &[Arg]) -> bool
@@ -81,8 +71,8 @@ fn rule_holds(rule: &Rule, tag: CallTag, args: &[Arg]) -> bool
 
 /// The verdict of a policy on a call: the line and the action of the first rule for the call's tag whose conditions all
 /// hold, and `NoRule` exactly if there is none. Rules are tried in the order of the list. If the policy is well
-/// made and the arguments fit the tag, each condition finds its argument; elsewhere a condition whose parameter is not
-/// there looks at the number 0.
+/// made and the arguments fit the tag, each condition finds its argument; otherwise a condition of a parameter that the
+/// call lacks tests the number 0.
 pub fn verdict_plain(policy: &Policy, tag: CallTag, args: &[Arg]) -> Verdict
     ensures { result ≡ verdict_of policy.now tag args.now }
 {

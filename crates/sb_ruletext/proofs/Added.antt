@@ -11,9 +11,9 @@ use Rattle.sb_rule.specs.declared.policies.Rule.{Rule}
 use Rattle.sb_ruletext.proofs.Conjunctions.{both, and_true}
 use Rattle.sb_ruletext.specs.Drafts.{is_headed}
 use Rattle.sb_ruletext.specs.Lines.{with_last_rules}
-use Rattle.sb_text.specs.Spots.{fails}
+use Rattle.sb_text.specs.Columns.{fails}
 use Rattle.sb_text.specs.Steps.{◌>>=◌, at_token, unless_fails}
-use Rattle.sb_text.specs.Tokens.{Lexeme}
+use Rattle.sb_text.specs.Tokens.{Lexemes}
 use Rattle.sb_text.specs.declared.refusals.TokenFault.{TokenFault}
 use Rattle.sb_ruletext.specs.declared.faults.PolicyFaultKind.{PolicyFaultKind}
 use Rattle.sb_ruletext.specs.declared.faults.PolicyFaultKind.TheVariants.{TooMany, NoHeading}
@@ -46,7 +46,7 @@ last_rules (policy ∷ next ∷ before) last rules =
     ∙ onto policy (nat_le (length last.rules + length rules) 256) (next ∷ before) (longer last rules)
 
 -- the policies so far with the rules of a line
-abbrev pub added : List Lexeme → List Policy → Result (List Rule) (TokenFault PolicyFaultKind) → Result (List Policy) (TokenFault PolicyFaultKind)
+abbrev pub added : Lexemes → List Policy → Result (List Rule) (TokenFault PolicyFaultKind) → Result (List Policy) (TokenFault PolicyFaultKind)
 added line policies rules =
     unless_fails line NoHeading (is_headed policies) >>= λ headed. rules >>= λ rules. at_token line (with_last_rules policies rules)
 
@@ -69,11 +69,11 @@ added_too_many before name old rules h =
     last_rules before (policy_of name old) rules ∙ ap (λ b. cond b (Ok (before ++ policy_of name (old ++ rules) ∷ [])) (Err (TooMany Rules))) t
 
 -- the same on a line, whose first token has the fault
-pub placed_fits : (line : List Lexeme) (before : List Policy) (name : List ℕ) (old rules : List Rule) → length old + length rules ≤ 256
+pub placed_fits : (line : Lexemes) (before : List Policy) (name : List ℕ) (old rules : List Rule) → length old + length rules ≤ 256
     → at_token line (with_last_rules (before ++ record { name = name; rules = old } ∷ []) rules) ≡ Ok (before ++ record { name = name; rules = old ++ rules } ∷ [])
 placed_fits line before name old rules h = ap (at_token line) (added_fits before name old rules h)
 
-pub placed_too_many : (line : List Lexeme) (before : List Policy) (name : List ℕ) (old rules : List Rule) → 256 < length old + length rules
+pub placed_too_many : (line : Lexemes) (before : List Policy) (name : List ℕ) (old rules : List Rule) → 256 < length old + length rules
     → at_token line (with_last_rules (before ++ record { name = name; rules = old } ∷ []) rules) ≡ fails line (TooMany Rules)
 placed_too_many line before name old rules h = ap (at_token line) (added_too_many before name old rules h)
 
@@ -170,5 +170,5 @@ pub added_nowhere : (rules : List Rule) → with_last_rules [] rules ≡ Err NoH
 unfolding with_last_rules
 added_nowhere rules = refl
 
-pub placed_nowhere : (line : List Lexeme) (rules : List Rule) → at_token line (with_last_rules [] rules) ≡ fails line NoHeading
+pub placed_nowhere : (line : Lexemes) (rules : List Rule) → at_token line (with_last_rules [] rules) ≡ fails line NoHeading
 placed_nowhere line rules = ap (at_token line) (added_nowhere rules)

@@ -17,9 +17,8 @@ use Rattle.sb_ruletext.specs.declared.faults.PolicyFaultKind.TheVariants.{BadVer
 use Rattle.sb_ruletext.specs.declared.notes.Note.{Note}
 use Rattle.sb_text.specs.Lines.{NumberedLine, lines_of}
 use Rattle.sb_text.specs.Readings.{on_line, read_by, read_lines, read_text, where_utf8}
-use Rattle.sb_text.specs.Spots.{by_tokens}
 use Rattle.sb_text.specs.Steps.{◌>>=◌, end_at, or_fails, unless_fails, version_at, version_digit, word_at}
-use Rattle.sb_text.specs.Tokens.{Lexeme, Word, Quoted, Bad, tokens_of}
+use Rattle.sb_text.specs.Tokens.{Lexemes, Next, End, Word, Quoted, Bad, by_tokens, tokens_of}
 use Rattle.sb_text.specs.Utf8.{Place, not_utf8_place}
 use Rattle.sb_text.specs.declared.refusals.LineFault.{LineFault}
 use Rattle.sb_text.specs.declared.refusals.TokenFault.{TokenFault}
@@ -48,46 +47,46 @@ lines_noted version policies notes (line ∷ lines) =
 
 -- ---- a version line has no notes
 
-no_note : (line : NumberedLine) (is_string : Bool) (w : List ℕ) → notes_in line is_string (Word w ∷ []) ≡ []
-no_note line true w = refl
-no_note line false w = refl
+no_note : (line : NumberedLine) (is_string : Bool) (place : ℕ) (w : List ℕ) (end : ℕ) → notes_in line is_string (Next place (Word w) (End end)) ≡ []
+no_note line true place w end = refl
+no_note line false place w end = refl
 
-abbrev after_digit : List ℕ → List Lexeme → List Lexeme → Result ℕ (TokenFault PolicyFaultKind)
+abbrev after_digit : List ℕ → Lexemes → Lexemes → Result ℕ (TokenFault PolicyFaultKind)
 after_digit digit rest after =
     or_fails rest BadVersion (version_digit 2 digit) >>= λ version. end_at BadVersion BadVersion after >>= λ end. Ok version
 
-ended : (line : NumberedLine) (is_string : Bool) (w : List ℕ) (found : Option ℕ) (rest after : List Lexeme) (version : ℕ)
+ended : (line : NumberedLine) (is_string : Bool) (place : ℕ) (w : List ℕ) (found : Option ℕ) (rest after : Lexemes) (version : ℕ)
     → (or_fails rest BadVersion found >>= λ v. end_at BadVersion BadVersion after >>= λ end. Ok v) ≡ Ok version
-    → notes_in line is_string (Word w ∷ after) ≡ []
-ended line is_string w None rest after version h = cc
-ended line is_string w (Some v) rest [] version h = no_note line is_string w
-ended line is_string w (Some v) rest (Word u ∷ after) version h = cc
-ended line is_string w (Some v) rest (Quoted q ∷ after) version h = cc
-ended line is_string w (Some v) rest (Bad ∷ after) version h = cc
+    → notes_in line is_string (Next place (Word w) after) ≡ []
+ended line is_string place w None rest after version h = cc
+ended line is_string place w (Some v) rest (End end) version h = no_note line is_string place w end
+ended line is_string place w (Some v) rest (Next next (Word u) after) version h = cc
+ended line is_string place w (Some v) rest (Next next (Quoted q) after) version h = cc
+ended line is_string place w (Some v) rest (Next next Bad after) version h = cc
 
-digit_alone : (line : NumberedLine) (is_string : Bool) (tokens : List Lexeme) (version : ℕ)
+digit_alone : (line : NumberedLine) (is_string : Bool) (tokens : Lexemes) (version : ℕ)
     → (word_at BadVersion BadVersion BadVersion tokens >>= λ r. after_digit r.0 tokens r.1) ≡ Ok version
     → notes_in line is_string tokens ≡ []
-digit_alone line is_string [] version h = refl
-digit_alone line is_string (Word w ∷ after) version h = ended line is_string w (version_digit 2 w) (Word w ∷ after) after version h
-digit_alone line is_string (Quoted q ∷ after) version h = cc
-digit_alone line is_string (Bad ∷ after) version h = cc
+digit_alone line is_string (End place) version h = refl
+digit_alone line is_string (Next place (Word w) after) version h = ended line is_string place w (version_digit 2 w) (Next place (Word w) after) after version h
+digit_alone line is_string (Next place (Quoted q) after) version h = cc
+digit_alone line is_string (Next place Bad after) version h = cc
 
-named : (line : NumberedLine) (is_string is_name : Bool) (tokens rest : List Lexeme) (version : ℕ)
+named : (line : NumberedLine) (is_string is_name : Bool) (tokens rest : Lexemes) (version : ℕ)
     → (unless_fails tokens BadVersion is_name >>= λ n. word_at BadVersion BadVersion BadVersion rest >>= λ r. after_digit r.0 rest r.1) ≡ Ok version
     → notes_in line is_string rest ≡ []
 named line is_string true tokens rest version h = digit_alone line is_string rest version h
 named line is_string false tokens rest version h = cc
 
-tokens_noteless : (line : NumberedLine) (tokens : List Lexeme) (version : ℕ) → version_at BadVersion (codes "sandbox-policy") 2 tokens ≡ Ok version
+tokens_noteless : (line : NumberedLine) (tokens : Lexemes) (version : ℕ) → version_at BadVersion (codes "sandbox-policy") 2 tokens ≡ Ok version
     → notes_in line false tokens ≡ []
-tokens_noteless line [] version h = refl
-tokens_noteless line (Word w ∷ rest) version h =
-    named line (follows_is (Word w)) (pointwise eqb w (codes "sandbox-policy")) (Word w ∷ rest) rest version h
-tokens_noteless line (Quoted q ∷ rest) version h = cc
-tokens_noteless line (Bad ∷ rest) version h = cc
+tokens_noteless line (End place) version h = refl
+tokens_noteless line (Next place (Word w) rest) version h =
+    named line (follows_is (Word w)) (pointwise eqb w (codes "sandbox-policy")) (Next place (Word w) rest) rest version h
+tokens_noteless line (Next place (Quoted q) rest) version h = cc
+tokens_noteless line (Next place Bad rest) version h = cc
 
-chosen_noteless : (line : NumberedLine) (about : Bool) (tokens : List Lexeme) → notes_in line false tokens ≡ []
+chosen_noteless : (line : NumberedLine) (about : Bool) (tokens : Lexemes) → notes_in line false tokens ≡ []
     → cond about (notes_in line false tokens) [] ≡ []
 chosen_noteless line true tokens h = h
 chosen_noteless line false tokens h = refl

@@ -13,9 +13,8 @@ use Rattle.sb_ruletext.proofs.PrintedConditions.{Texts}
 use Rattle.sb_rule.specs.WellMade.{is_well_made_rule, is_well_made, are_well_made, is_named, are_named_apart}
 use Rattle.sb_rule.specs.declared.policies.Policy.{Policy}
 use Rattle.sb_rule.specs.declared.policies.Rule.{Rule}
-use Rattle.sb_text.specs.Tokens.{Lexeme, Word}
-use Rattle.sb_text.specs.Spots.{by_tokens}
-use Rattle.sb_text.specs.TokenLaws.{written_line}
+use Rattle.sb_text.specs.Tokens.{Lexeme, Lexemes, Word, by_tokens}
+use Rattle.sb_text.specs.TokenLaws.{placed, written_line}
 use Rattle.sb_text.specs.Utf8Laws.{NotUtf8PlaceTells}
 use Rattle.sb_text.specs.declared.refusals.TokenFault.{TokenFault}
 use Rattle.sb_text.specs.declared.refusals.LineFault.{LineFault}
@@ -60,7 +59,7 @@ AreActionsOfAll version (policy ∷ policies) = AreActions version policy.rules 
 -- a line
 
 line_read : Laws → (version : ℕ) (done more : List Policy) (n : ℕ) (tokens : List Lexeme) (lines : List (List Lexeme)) → is_plain_line tokens ≡ true
-    → line_of version done n tokens ≡ Ok more → read_lines grammar version done (numbered n (tokens ∷ lines)) ≡ read_lines grammar version more (numbered (n + 1) lines)
+    → line_of version done n (placed tokens) ≡ Ok more → read_lines grammar version done (numbered n (tokens ∷ lines)) ≡ read_lines grammar version more (numbered (n + 1) lines)
 unfolding read_lines
 line_read laws version done more n tokens lines p e =
     let line : NumberedLine = record { number = n; text = written_line tokens } in
@@ -92,21 +91,21 @@ rules_read laws version done name before n (rule ∷ rules) lines h v a few =
 
 -- a name, with which the line ends
 abbrev then_end : List ℕ → Read (List ℕ) PolicyFaultKind
-then_end name = Ok (name, [])
+then_end name = Ok (name, placed [])
 
 -- what `heading` does with a name, if there is room for one more policy or not
-abbrev headed : List Policy → List Lexeme → List Lexeme → Bool → Result (List ℕ) PolicyFaultKind → Result (List Policy) (TokenFault PolicyFaultKind)
+abbrev headed : List Policy → Lexemes → Lexemes → Bool → Result (List ℕ) PolicyFaultKind → Result (List Policy) (TokenFault PolicyFaultKind)
 headed done line tokens few name =
     (at_token tokens name >>= then_end)
     >>= λ name. end_at (UnknownWord Extra) (UnknownWord Broken) name.1 >>= λ end. at_token line (if few then Ok (done ++ policy_of name.0 [] ∷ []) else Err (TooMany Policies))
 
 heading_read : (version : ℕ) (done : List Policy) (n : ℕ) (policy : Policy) → is_short_name policy.name ≡ true → list_any (is_named policy.name) done ≡ false
-    → nat_lt (length done) most_policies ≡ true → line_of version done n (heading_tokens policy) ≡ Ok (done ++ policy_of policy.name [] ∷ [])
+    → nat_lt (length done) most_policies ≡ true → line_of version done n (placed (heading_tokens policy)) ≡ Ok (done ++ policy_of policy.name [] ∷ [])
 unfolding line_of heading
 heading_read version done n policy short new few = by_tests (is_short_name policy.name) (list_any (is_named policy.name) done) (nat_lt (length done) most_policies) short new few
   where
     by_tests : (s t u : Bool) → s ≡ true → t ≡ false → u ≡ true
-        → headed done (heading_tokens policy) (Word policy.name ∷ []) u (if s then (if t then Err SameName else Ok policy.name) else Err (UnknownWord Unknown))
+        → headed done (placed (heading_tokens policy)) (placed (Word policy.name ∷ [])) u (if s then (if t then Err SameName else Ok policy.name) else Err (UnknownWord Unknown))
         ≡ Ok (done ++ policy_of policy.name [] ∷ [])
     by_tests s t u e f g = rw (e, f, g) refl
 
@@ -206,7 +205,7 @@ version_line t = Word (codes "sandbox-policy") ∷ Word (if t then codes "2" els
 -- what a first line with these tokens and the lines after it are read as
 abbrev read_after : List Lexeme → List (List Lexeme) → Result (List Policy) (LineFault PolicyFaultKind)
 read_after tokens lines =
-    on_line by_tokens (record { number = 1; text = written_line tokens }) (version_at BadVersion (codes "sandbox-policy") 2 tokens)
+    on_line by_tokens (record { number = 1; text = written_line tokens }) (version_at BadVersion (codes "sandbox-policy") 2 (placed tokens))
     >>= λ version. read_lines grammar version [] (numbered 2 lines)
 
 below_read : Laws → (policies : List Policy) → list_all is_well_made policies ≡ true → list_all is_policy_of_values policies ≡ true

@@ -27,12 +27,12 @@ use Rattle.sb_rule.specs.declared.policies.Rule.{Rule}
 use Rattle.sb_text.specs.Lines.{NumberedLine, lines_of}
 use Rattle.sb_text.specs.Numbers.{number_of}
 use Rattle.sb_text.specs.Readings.{read_lines, read_by, where_utf8, on_line}
-use Rattle.sb_text.specs.Spots.{by_tokens, fails}
+use Rattle.sb_text.specs.Columns.{fails}
 use Rattle.sb_text.specs.Steps.{◌>>=◌, or_fault, or_fails, unless_fails, at_token, Read, begins_with, later, is_end}
 use Rattle.sb_text.specs.declared.refusals.TokenFault.{TokenFault}
 use Rattle.sb_text.specs.declared.refusals.WordFault.TheVariants as wrong
 use Rattle.sb_text.specs.TokenLaws.{is_quoted_byte, is_quoted_text, has_quoted_text, QuotedTokensAreText}
-use Rattle.sb_text.specs.Tokens.{Lexeme, Word, Quoted, Bad, string_of, tokens_of}
+use Rattle.sb_text.specs.Tokens.{Lexemes, Next, End, Word, Quoted, Bad, by_tokens, lexemes, string_of, tokens_of}
 use Rattle.sb_text.specs.Utf8.{Place, not_utf8_place}
 use Rattle.sb_text.specs.declared.refusals.LineFault.{LineFault}
 use Rattle.sb_call.specs.Parameters.{parameter_words}
@@ -72,12 +72,12 @@ passed true x y kind h = (refl, ok_same x y h)
 passed false x y kind h = absurd cc
 
 -- a value that was there, at a token
-at_same : {A : Type 0} (tokens : List Lexeme) (value : Result A PolicyFaultKind) (x : A) → at_token tokens value ≡ Ok x → value ≡ Ok x
+at_same : {A : Type 0} (tokens : Lexemes) (value : Result A PolicyFaultKind) (x : A) → at_token tokens value ≡ Ok x → value ≡ Ok x
 at_same tokens (Ok x) y h = cc
 at_same tokens (Err kind) y h = absurd cc
 
 -- a test that held, at a token
-held : (tokens : List Lexeme) (kind : PolicyFaultKind) (b : Bool) (y : Unit {0}) → unless_fails tokens kind b ≡ Ok y → b ≡ true
+held : (tokens : Lexemes) (kind : PolicyFaultKind) (b : Bool) (y : Unit {0}) → unless_fails tokens kind b ≡ Ok y → b ≡ true
 held tokens kind true y h = refl
 held tokens kind false y h = absurd cc
 
@@ -89,32 +89,32 @@ branches P false x y h k = k
 -- tokens
 
 -- what quoted tokens hold is text
-abbrev AreText : List Lexeme → Type 0
-AreText tokens = list_all is_quoted_text tokens ≡ true
+abbrev AreText : Lexemes → Type 0
+AreText tokens = list_all is_quoted_text (lexemes tokens) ≡ true
 
-later_text : (tokens : List Lexeme) → AreText tokens → AreText (later tokens)
-later_text [] t = refl
-later_text (token ∷ tokens) t = (both (is_quoted_text token) (list_all is_quoted_text tokens) t).1
+later_text : (tokens : Lexemes) → AreText tokens → AreText (later tokens)
+later_text (End place) t = refl
+later_text (Next place token tokens) t = (both (is_quoted_text token) (list_all is_quoted_text (lexemes tokens)) t).1
 
-word_rest : (quoted : PolicyFaultKind) (tokens : List Lexeme) (x : List ℕ × List Lexeme) → word_or quoted tokens ≡ Ok x → AreText tokens → AreText x.1
-word_rest quoted (Word w ∷ tokens) x h t =
-    subst (λ (y : List ℕ × List Lexeme). AreText y.1) {x = (w, tokens)} (ok_same (w, tokens) x h) (both (is_quoted_text (Word w)) (list_all is_quoted_text tokens) t).1
-word_rest quoted (Quoted q ∷ tokens) x h t = absurd cc
-word_rest quoted (Bad ∷ tokens) x h t = absurd cc
-word_rest quoted [] x h t = absurd cc
+word_rest : (quoted : PolicyFaultKind) (tokens : Lexemes) (x : List ℕ × Lexemes) → word_or quoted tokens ≡ Ok x → AreText tokens → AreText x.1
+word_rest quoted (Next place (Word w) tokens) x h t =
+    subst (λ (y : List ℕ × Lexemes). AreText y.1) {x = (w, tokens)} (ok_same (w, tokens) x h) (both (is_quoted_text (Word w)) (list_all is_quoted_text (lexemes tokens)) t).1
+word_rest quoted (Next place (Quoted q) tokens) x h t = absurd cc
+word_rest quoted (Next place Bad tokens) x h t = absurd cc
+word_rest quoted (End place) x h t = absurd cc
 
 -- what is between quotes, and the tokens after it
-record QuotedFine (x : List ℕ × List Lexeme) : Type 0 where
+record QuotedFine (x : List ℕ × Lexemes) : Type 0 where
   text : is_quoted_text (Quoted x.0) ≡ true
   rest : AreText x.1
 
-quoted_fine : (word : PolicyFaultKind) (tokens : List Lexeme) (x : List ℕ × List Lexeme) → quoted_or word tokens ≡ Ok x → AreText tokens → QuotedFine x
-quoted_fine word (Quoted q ∷ tokens) x h t =
-    let parts = both (is_quoted_text (Quoted q)) (list_all is_quoted_text tokens) t in
+quoted_fine : (word : PolicyFaultKind) (tokens : Lexemes) (x : List ℕ × Lexemes) → quoted_or word tokens ≡ Ok x → AreText tokens → QuotedFine x
+quoted_fine word (Next place (Quoted q) tokens) x h t =
+    let parts = both (is_quoted_text (Quoted q)) (list_all is_quoted_text (lexemes tokens)) t in
     subst QuotedFine {x = (q, tokens)} (ok_same (q, tokens) x h) (record { text = parts.0; rest = parts.1 })
-quoted_fine word (Word w ∷ tokens) x h t = absurd cc
-quoted_fine word (Bad ∷ tokens) x h t = absurd cc
-quoted_fine word [] x h t = absurd cc
+quoted_fine word (Next place (Word w) tokens) x h t = absurd cc
+quoted_fine word (Next place Bad tokens) x h t = absurd cc
+quoted_fine word (End place) x h t = absurd cc
 
 -- the laws of lower crates that the proofs on values use
 pub record Texts : Type 0 where
@@ -130,19 +130,19 @@ units_fine law q h =
 
 -- items that are joined by a word
 
-record IsJoined {A : Type 0} (p : A → Bool) (most : ℕ) (x : List A × List Lexeme) : Type 0 where
+record IsJoined {A : Type 0} (p : A → Bool) (most : ℕ) (x : List A × Lexemes) : Type 0 where
   some : 0 < length x.0
   few : length x.0 ≤ most
   each : list_all p x.0 ≡ true
   rest : AreText x.1
 
 -- an item passes a test, and text follows it
-record IsItem {A : Type 0} (p : A → Bool) (x : A × List Lexeme) : Type 0 where
+record IsItem {A : Type 0} (p : A → Bool) (x : A × Lexemes) : Type 0 where
   item : p x.0 ≡ true
   rest : AreText x.1
 
-joined_next : {A : Type 0} (p : A → Bool) (most : ℕ) (first : A) (rest : List Lexeme) (b : Bool) (others : Read (List A) PolicyFaultKind) (x : List A × List Lexeme)
-    → p first ≡ true → AreText rest → ((y : List A × List Lexeme) → others ≡ Ok y → IsJoined p most y)
+joined_next : {A : Type 0} (p : A → Bool) (most : ℕ) (first : A) (rest : Lexemes) (b : Bool) (others : Read (List A) PolicyFaultKind) (x : List A × Lexemes)
+    → p first ≡ true → AreText rest → ((y : List A × Lexemes) → others ≡ Ok y → IsJoined p most y)
     → cond b (others >>= λ others. Ok (first ∷ others.0, others.1)) (Ok (first ∷ [], rest)) ≡ Ok x → IsJoined p (suc most) x
 joined_next p most first rest true others x i t f h =
     let o = made others (λ others. Ok (first ∷ others.0, others.1)) x h in
@@ -154,9 +154,9 @@ joined_next p most first rest false others x i t f h =
     subst (IsJoined p (suc most)) {x = (first ∷ [], rest)} (ok_same (first ∷ [], rest) x h)
     (record { some = omega arith; few = omega arith; each = and_true _ _ i refl; rest = t })
 
-joined_fine : {A : Type 0} (limit : PolicyLimit) (p : A → Bool) (item_at : List Lexeme → Read A PolicyFaultKind)
-    → ((tokens : List Lexeme) (x : A × List Lexeme) → item_at tokens ≡ Ok x → AreText tokens → IsItem p x)
-    → (most : ℕ) (joint : List ℕ) (tokens : List Lexeme) (x : List A × List Lexeme) → joined_at limit most joint item_at tokens ≡ Ok x → AreText tokens → IsJoined p most x
+joined_fine : {A : Type 0} (limit : PolicyLimit) (p : A → Bool) (item_at : Lexemes → Read A PolicyFaultKind)
+    → ((tokens : Lexemes) (x : A × Lexemes) → item_at tokens ≡ Ok x → AreText tokens → IsItem p x)
+    → (most : ℕ) (joint : List ℕ) (tokens : Lexemes) (x : List A × Lexemes) → joined_at limit most joint item_at tokens ≡ Ok x → AreText tokens → IsJoined p most x
 unfolding joined_at
 joined_fine limit p item_at f zero joint tokens x h t = absurd cc
 joined_fine limit p item_at f (suc most) joint tokens x h t =
@@ -169,15 +169,15 @@ joined_fine limit p item_at f (suc most) joint tokens x h t =
 -- tests
 
 -- a test is sensible and of this kind, and text follows it
-record IsTest (is_number : Bool) (x : Test × List Lexeme) : Type 0 where
+record IsTest (is_number : Bool) (x : Test × Lexemes) : Type 0 where
   sensible : is_sensible x.0 ≡ true
   kind : is_number_test x.0 ≡ is_number
   rest : AreText x.1
 
 abbrev Tests : Bool → Read Test PolicyFaultKind → Type 0
-Tests is_number read = (x : Test × List Lexeme) → read ≡ Ok x → IsTest is_number x
+Tests is_number read = (x : Test × Lexemes) → read ≡ Ok x → IsTest is_number x
 
-number_fine : (tokens : List Lexeme) (x : ℕ × List Lexeme) → number_at tokens ≡ Ok x → AreText tokens → IsItem (λ n. true) x
+number_fine : (tokens : Lexemes) (x : ℕ × Lexemes) → number_at tokens ≡ Ok x → AreText tokens → IsItem (λ n. true) x
 number_fine tokens x h t =
     let w = made (word_or WrongKind tokens) (λ word. or_fails tokens BadNumber (number_of word.0) >>= λ n. Ok (n, word.1)) x h in
     let n = made (or_fails tokens BadNumber (number_of w.0.0)) (λ n. Ok (n, w.0.1)) x w.2 in
@@ -186,14 +186,14 @@ number_fine tokens x h t =
 list_fine : (numbers : List ℕ) → 0 < length numbers → length numbers ≤ 16 → is_sensible (OneOf numbers) ≡ true
 list_fine numbers h k = grind (arith, nat_tests)
 
-numbers_fine : (tokens : List Lexeme) → AreText tokens → Tests true (numbers_at tokens >>= λ numbers. Ok (OneOf numbers.0, numbers.1))
+numbers_fine : (tokens : Lexemes) → AreText tokens → Tests true (numbers_at tokens >>= λ numbers. Ok (OneOf numbers.0, numbers.1))
 numbers_fine tokens t x h =
     let n = made (numbers_at tokens) (λ numbers. Ok (OneOf numbers.0, numbers.1)) x h in
     let j = joined_fine limit.Numbers (λ n. true) number_at number_fine most_numbers (codes "or") tokens n.0 n.1 t in
     subst (IsTest true) {x = (OneOf n.0.0, n.0.1)} (ok_same (OneOf n.0.0, n.0.1) x n.2)
     (record { sensible = list_fine n.0.0 j.some j.few; kind = refl; rest = j.rest })
 
-mask_fine : (tokens : List Lexeme) → AreText tokens → Tests true (number_at tokens >>= λ mask. Ok (Mask mask.0, mask.1))
+mask_fine : (tokens : Lexemes) → AreText tokens → Tests true (number_at tokens >>= λ mask. Ok (Mask mask.0, mask.1))
 mask_fine tokens t x h =
     let n = made (number_at tokens) (λ mask. Ok (Mask mask.0, mask.1)) x h in
     subst (IsTest true) {x = (Mask n.0.0, n.0.1)} (ok_same (Mask n.0.0, n.0.1) x n.2)
@@ -213,7 +213,7 @@ range_fine word test h =
     let t = passed (nat_le lo.0 hi.0) (Range lo.0 hi.0) test EmptyRange hi.2 in
     subst IsRange {x = Range lo.0 hi.0} t.1 (record { sensible = t.0; kind = refl })
 
-range_at_fine : (tokens : List Lexeme) → AreText tokens → Tests true (range_at tokens)
+range_at_fine : (tokens : Lexemes) → AreText tokens → Tests true (range_at tokens)
 range_at_fine tokens t x h =
     let w = made (word_or WrongKind tokens) (λ word. at_token tokens (range_of word.0) >>= λ test. Ok (test, word.1)) x h in
     let r = made (at_token tokens (range_of w.0.0)) (λ test. Ok (test, w.0.1)) x w.2 in
@@ -226,18 +226,18 @@ string_fine laws q text t h =
     let p = passed (nat_le (length (string_of q)) most_units) (string_of q) text (BadPattern TooLong) h in
     subst (λ us. is_policy_text us ≡ true) p.1 (short_text (string_of q) p.0 (units_fine laws.strings q t))
 
-cells_same : (tokens : List Lexeme) (read : Result (List Cell) PatternFault) (cs : List Cell) → cells tokens read ≡ Ok cs → read ≡ Ok cs
+cells_same : (tokens : Lexemes) (read : Result (List Cell) PatternFault) (cs : List Cell) → cells tokens read ≡ Ok cs → read ≡ Ok cs
 cells_same tokens (Ok pattern) cs h = cc
 cells_same tokens (Err (DoubleStar unit)) cs h = absurd cc
 cells_same tokens (Err (StarQuestion unit)) cs h = absurd cc
 cells_same tokens (Err TooLong) cs h = absurd cc
 
 -- a pattern, and the tokens after it
-record IsPattern (x : List Cell × List Lexeme) : Type 0 where
+record IsPattern (x : List Cell × Lexemes) : Type 0 where
   like : is_like_text x.0 ≡ true
   rest : AreText x.1
 
-cells_fine : Texts → (word : PolicyFaultKind) (tokens : List Lexeme) (x : List Cell × List Lexeme) → cells_at word tokens ≡ Ok x → AreText tokens → IsPattern x
+cells_fine : Texts → (word : PolicyFaultKind) (tokens : Lexemes) (x : List Cell × Lexemes) → cells_at word tokens ≡ Ok x → AreText tokens → IsPattern x
 cells_fine laws word tokens x h t =
     let q = made (quoted_or word tokens) (λ quoted. cells tokens (cells_read (string_of quoted.0)) >>= λ pattern. Ok (pattern, quoted.1)) x h in
     let p = made (cells tokens (cells_read (string_of q.0.0))) (λ pattern. Ok (pattern, q.0.1)) x q.2 in
@@ -247,7 +247,7 @@ cells_fine laws word tokens x h t =
       rest = fine.rest;
     })
 
-string_at_fine : Texts → (tokens : List Lexeme) → AreText tokens → Tests false (string_at tokens)
+string_at_fine : Texts → (tokens : Lexemes) → AreText tokens → Tests false (string_at tokens)
 string_at_fine laws tokens t x h =
     let q = made (quoted_or WrongKind tokens) (λ quoted. at_token tokens (string quoted.0) >>= λ text. Ok (Equal text, quoted.1)) x h in
     let s = made (at_token tokens (string q.0.0)) (λ text. Ok (Equal text, q.0.1)) x q.2 in
@@ -255,33 +255,33 @@ string_at_fine laws tokens t x h =
     subst (IsTest false) {x = (Equal s.0, q.0.1)} (ok_same (Equal s.0, q.0.1) x s.2)
     (record { sensible = string_fine laws q.0.0 s.0 fine.text (at_same tokens (string q.0.0) s.0 s.1); kind = refl; rest = fine.rest })
 
-pattern_at_fine : Texts → (tokens : List Lexeme) → AreText tokens → Tests false (pattern_at tokens)
+pattern_at_fine : Texts → (tokens : Lexemes) → AreText tokens → Tests false (pattern_at tokens)
 pattern_at_fine laws tokens t x h =
     let p = made (cells_at WrongKind tokens) (λ read. Ok (Like read.0, read.1)) x h in
     let fine = cells_fine laws WrongKind tokens p.0 p.1 t in
     subst (IsTest false) {x = (Like p.0.0, p.0.1)} (ok_same (Like p.0.0, p.0.1) x p.2)
     (record { sensible = fine.like; kind = refl; rest = fine.rest })
 
-is_fine : Texts → (is_number : Bool) (tokens : List Lexeme) → AreText tokens → Tests is_number (is_at is_number tokens)
+is_fine : Texts → (is_number : Bool) (tokens : Lexemes) → AreText tokens → Tests is_number (is_at is_number tokens)
 is_fine laws true tokens t = numbers_fine tokens t
 is_fine laws false tokens t = string_at_fine laws tokens t
 
-in_fine : (is_number : Bool) (due tokens : List Lexeme) → AreText tokens → Tests is_number (in_at is_number due tokens)
+in_fine : (is_number : Bool) (due tokens : Lexemes) → AreText tokens → Tests is_number (in_at is_number due tokens)
 in_fine true due tokens t x h = range_at_fine tokens t x h
 in_fine false due tokens t x h = absurd cc
 
-has_fine : (is_number : Bool) (due tokens : List Lexeme) → AreText tokens → Tests is_number (has_at is_number due tokens)
+has_fine : (is_number : Bool) (due tokens : Lexemes) → AreText tokens → Tests is_number (has_at is_number due tokens)
 has_fine true due tokens t x h = mask_fine tokens t x h
 has_fine false due tokens t x h = absurd cc
 
-like_fine : Texts → (is_number : Bool) (due tokens : List Lexeme) → AreText tokens → Tests is_number (like_at is_number due tokens)
+like_fine : Texts → (is_number : Bool) (due tokens : Lexemes) → AreText tokens → Tests is_number (like_at is_number due tokens)
 like_fine laws true due tokens t x h = absurd cc
 like_fine laws false due tokens t x h = pattern_at_fine laws tokens t x h
 
-no_test : (is_number : Bool) (tokens : List Lexeme) → Tests is_number (fails tokens (UnknownWord wrong.Unknown))
+no_test : (is_number : Bool) (tokens : Lexemes) → Tests is_number (fails tokens (UnknownWord wrong.Unknown))
 no_test is_number tokens x h = absurd cc
 
-test_fine : Texts → (is_number : Bool) (tokens : List Lexeme) → AreText tokens → Tests is_number (test_at is_number tokens)
+test_fine : Texts → (is_number : Bool) (tokens : Lexemes) → AreText tokens → Tests is_number (test_at is_number tokens)
 unfolding test_at
 test_fine laws is_number tokens t x h =
     let w = made (word_or (UnknownWord wrong.Quoted) tokens) (λ word. cond (is_word (codes "is") word.0) (is_at is_number word.1)
@@ -298,11 +298,11 @@ test_fine laws is_number tokens t x h =
 -- conditions
 
 -- a parameter of the call, and the tokens after it
-record IsParameter (tag : CallTag) (x : ℕ × List Lexeme) : Type 0 where
+record IsParameter (tag : CallTag) (x : ℕ × Lexemes) : Type 0 where
   within : nat_lt x.0 (length (shape_of tag)) ≡ true
   rest : AreText x.1
 
-found : {A : Type 0} (tokens : List Lexeme) (kind : PolicyFaultKind) (o : Option A) (x : A) → or_fails tokens kind o ≡ Ok x → o ≡ Some x
+found : {A : Type 0} (tokens : Lexemes) (kind : PolicyFaultKind) (o : Option A) (x : A) → or_fails tokens kind o ≡ Ok x → o ≡ Some x
 found tokens kind (Some x) y h = cc
 found tokens kind None y h = absurd cc
 
@@ -328,7 +328,7 @@ parameter_within tag word p h =
     let many = as_many tag in
     grind (arith, nat_tests, below, many)
 
-parameter_fine : (tag : CallTag) (tokens : List Lexeme) (x : ℕ × List Lexeme) → parameter_at tag tokens ≡ Ok x → AreText tokens → IsParameter tag x
+parameter_fine : (tag : CallTag) (tokens : Lexemes) (x : ℕ × Lexemes) → parameter_at tag tokens ≡ Ok x → AreText tokens → IsParameter tag x
 parameter_fine tag tokens x h t =
     let w = made (word_or UnknownParam tokens) (λ word. or_fails tokens UnknownParam (parameter_of tag word.0) >>= λ param. Ok (param, word.1)) x h in
     let p = made (or_fails tokens UnknownParam (parameter_of tag w.0.0)) (λ param. Ok (param, w.0.1)) x w.2 in
@@ -341,7 +341,7 @@ same_kind false false h = refl
 same_kind true false h = sym h
 same_kind false true h = h
 
-plain_fine : Texts → (negated : Bool) (tag : CallTag) (tokens : List Lexeme) (x : Cond × List Lexeme)
+plain_fine : Texts → (negated : Bool) (tag : CallTag) (tokens : Lexemes) (x : Cond × Lexemes)
     → plain_condition_at negated tag tokens ≡ Ok x → AreText tokens → IsItem (is_well_formed tag) x
 plain_fine laws negated tag tokens x h t =
     let p = made (parameter_at tag tokens)
@@ -356,7 +356,7 @@ plain_fine laws negated tag tokens x h t =
       rest = test.rest;
     })
 
-condition_fine : Texts → (tag : CallTag) (tokens : List Lexeme) (x : Cond × List Lexeme)
+condition_fine : Texts → (tag : CallTag) (tokens : Lexemes) (x : Cond × Lexemes)
     → condition_at tag tokens ≡ Ok x → AreText tokens → IsItem (is_well_formed tag) x
 unfolding condition_at
 condition_fine laws tag tokens x h t =
@@ -369,7 +369,7 @@ record AreConditions (tag : CallTag) (conds : List Cond) : Type 0 where
   few : length conds ≤ 8
   each : list_all (is_well_formed tag) conds ≡ true
 
-conditions_fine : Texts → (tag : CallTag) (tokens : List Lexeme) (conds : List Cond)
+conditions_fine : Texts → (tag : CallTag) (tokens : Lexemes) (conds : List Cond)
     → conditions_of tag tokens ≡ Ok conds → AreText tokens → AreConditions tag conds
 conditions_fine laws tag tokens conds h t =
     let c = made (conditions_at tag tokens) (λ conds. line_end conds.1 >>= λ end. Ok conds.0) conds h in
@@ -377,13 +377,13 @@ conditions_fine laws tag tokens conds h t =
     let j = joined_fine limit.Conditions (is_well_formed tag) (condition_at tag) (condition_fine laws tag) most_conditions (codes "and") tokens c.0 c.1 t in
     subst (AreConditions tag) {x = c.0.0} (ok_same c.0.0 conds e.2) (record { few = j.few; each = j.each })
 
-never_when : (tag : CallTag) (tokens : List Lexeme) (conds : List Cond) → end_at_when tokens ≡ Ok conds → AreConditions tag conds
-never_when tag (Bad ∷ tokens) conds h = absurd cc
-never_when tag (Word w ∷ tokens) conds h = absurd cc
-never_when tag (Quoted q ∷ tokens) conds h = absurd cc
-never_when tag [] conds h = absurd cc
+never_when : (tag : CallTag) (tokens : Lexemes) (conds : List Cond) → end_at_when tokens ≡ Ok conds → AreConditions tag conds
+never_when tag (Next place Bad tokens) conds h = absurd cc
+never_when tag (Next place (Word w) tokens) conds h = absurd cc
+never_when tag (Next place (Quoted q) tokens) conds h = absurd cc
+never_when tag (End place) conds h = absurd cc
 
-when_fine : Texts → (tag : CallTag) (tokens : List Lexeme) (conds : List Cond) → when_of tag tokens ≡ Ok conds → AreText tokens → AreConditions tag conds
+when_fine : Texts → (tag : CallTag) (tokens : Lexemes) (conds : List Cond) → when_of tag tokens ≡ Ok conds → AreText tokens → AreConditions tag conds
 when_fine laws tag tokens conds h t =
     branches (λ (read : Result (List Cond) (TokenFault PolicyFaultKind)). read ≡ Ok conds → AreConditions tag conds) (is_end tokens) (Ok []) _
     (λ e. subst (AreConditions tag) {x = []} (ok_same [] conds e) (record { few = omega arith; each = refl }))
@@ -396,7 +396,7 @@ when_fine laws tag tokens conds h t =
 abbrev Rules : Result (List Rule) (TokenFault PolicyFaultKind) → Type 0
 Rules read = (rules : List Rule) → read ≡ Ok rules → list_all is_well_made_rule rules ≡ true
 
-rule_fine : Texts → (line : ℕ) (action : Action) (tokens : List Lexeme) → AreText tokens → Rules (rule line action tokens)
+rule_fine : Texts → (line : ℕ) (action : Action) (tokens : Lexemes) → AreText tokens → Rules (rule line action tokens)
 unfolding rule
 rule_fine laws line action tokens t rules h =
     let c = made (call_at tokens)
@@ -411,19 +411,19 @@ rule_fine laws line action tokens t rules h =
     subst (λ rules. list_all is_well_made_rule rules ≡ true) {x = record { tag = tag; conds = w.0; action = action; line = line } ∷ []}
     (ok_same (record { tag = tag; conds = w.0; action = action; line = line } ∷ []) rules w.2) (one_well_made tag w.0 action line conds.few readers conds.each)
   where
-    call_rest : (tokens : List Lexeme) (x : CallTag × List Lexeme) → call_at tokens ≡ Ok x → AreText tokens → AreText x.1
+    call_rest : (tokens : Lexemes) (x : CallTag × Lexemes) → call_at tokens ≡ Ok x → AreText tokens → AreText x.1
     call_rest tokens x h t =
         let w = made (word_or UnknownCall tokens) (λ word. or_fails tokens UnknownCall (tag_of_word word.0) >>= λ tag. Ok (tag, word.1)) x h in
         let c = made (or_fails tokens UnknownCall (tag_of_word w.0.0)) (λ tag. Ok (tag, w.0.1)) x w.2 in
-        subst (λ (y : CallTag × List Lexeme). AreText y.1) {x = (c.0, w.0.1)} (ok_same (c.0, w.0.1) x c.2) (word_rest UnknownCall tokens w.0 w.1 t)
+        subst (λ (y : CallTag × Lexemes). AreText y.1) {x = (c.0, w.0.1)} (ok_same (c.0, w.0.1) x c.2) (word_rest UnknownCall tokens w.0 w.1 t)
 
-grant_rest : (tokens : List Lexeme) (x : Grant × List Lexeme) → grant_at tokens ≡ Ok x → AreText tokens → AreText x.1
+grant_rest : (tokens : Lexemes) (x : Grant × Lexemes) → grant_at tokens ≡ Ok x → AreText tokens → AreText x.1
 grant_rest tokens x h t =
     let w = made (word_or (UnknownWord wrong.Quoted) tokens) (λ word. or_fails tokens (UnknownWord wrong.Unknown) (grant_of word.0) >>= λ grant. Ok (grant, word.1)) x h in
     let g = made (or_fails tokens (UnknownWord wrong.Unknown) (grant_of w.0.0)) (λ grant. Ok (grant, w.0.1)) x w.2 in
-    subst (λ (y : Grant × List Lexeme). AreText y.1) {x = (g.0, w.0.1)} (ok_same (g.0, w.0.1) x g.2) (word_rest (UnknownWord wrong.Quoted) tokens w.0 w.1 t)
+    subst (λ (y : Grant × Lexemes). AreText y.1) {x = (g.0, w.0.1)} (ok_same (g.0, w.0.1) x g.2) (word_rest (UnknownWord wrong.Quoted) tokens w.0 w.1 t)
 
-grant_fine : Texts → (line : ℕ) (tokens : List Lexeme) → AreText tokens → Rules (grant line tokens)
+grant_fine : Texts → (line : ℕ) (tokens : Lexemes) → AreText tokens → Rules (grant line tokens)
 unfolding grant
 grant_fine laws line tokens t rules h =
     let g = made (grant_at tokens) (λ grant. cells_at (UnknownWord wrong.Unquoted) grant.1 >>= λ cells. line_end cells.1 >>= λ end. Ok (rules_of line grant.0 cells.0)) rules h in
@@ -464,7 +464,7 @@ rules_kept (policy ∷ policies) rules h k new e =
     subst (λ ps. are_well_made ps ≡ true) t.1
     (well_made_longer parts.before parts.last.name parts.last.rules rules (subst (λ ps. are_well_made ps ≡ true) parts.same h) k few)
 
-added_kept : (line : List Lexeme) (policies : List Policy) (read : Result (List Rule) (TokenFault PolicyFaultKind)) → are_well_made policies ≡ true → Rules read
+added_kept : (line : Lexemes) (policies : List Policy) (read : Result (List Rule) (TokenFault PolicyFaultKind)) → are_well_made policies ≡ true → Rules read
     → Kept (unless_fails line NoHeading (is_headed policies) >>= λ headed. read >>= λ rules. at_token line (with_last_rules policies rules))
 added_kept line policies read h f new e =
     let c = made (unless_fails line NoHeading (is_headed policies)) (λ headed. read >>= λ rules. at_token line (with_last_rules policies rules)) new e in
@@ -480,7 +480,7 @@ another_name policies word name h = by_tests (is_short_name word) (list_any (is_
     by_tests true false k e = subst (λ n. list_any (is_named n) policies ≡ false) (ok_same word name e) k
     by_tests false t k e = absurd cc
 
-heading_kept : (policies : List Policy) (line tokens : List Lexeme) → are_well_made policies ≡ true → Kept (heading policies line tokens)
+heading_kept : (policies : List Policy) (line tokens : Lexemes) → are_well_made policies ≡ true → Kept (heading policies line tokens)
 unfolding heading
 heading_kept policies line tokens h new e =
     let n = made (name_at policies tokens) (λ name. line_end name.1 >>= λ end. at_token line (with_policy policies name.0)) new e in
@@ -490,14 +490,14 @@ heading_kept policies line tokens h new e =
     let few : length policies < 8 = grind (arith, nat_tests, room) in
     subst (λ ps. are_well_made ps ≡ true) t.1 (well_made_more policies n.0.0 h (named_apart policies tokens n.0 n.1) few)
   where
-    named_apart : (policies : List Policy) (tokens : List Lexeme) (x : List ℕ × List Lexeme) → name_at policies tokens ≡ Ok x → list_any (is_named x.0) policies ≡ false
+    named_apart : (policies : List Policy) (tokens : Lexemes) (x : List ℕ × Lexemes) → name_at policies tokens ≡ Ok x → list_any (is_named x.0) policies ≡ false
     named_apart policies tokens x h =
         let w = made (word_or (UnknownWord wrong.Quoted) tokens) (λ word. at_token tokens (new_name policies word.0) >>= λ name. Ok (name, word.1)) x h in
         let n = made (at_token tokens (new_name policies w.0.0)) (λ name. Ok (name, w.0.1)) x w.2 in
-        subst (λ (y : List ℕ × List Lexeme). list_any (is_named y.0) policies ≡ false) {x = (n.0, w.0.1)} (ok_same (n.0, w.0.1) x n.2)
+        subst (λ (y : List ℕ × Lexemes). list_any (is_named y.0) policies ≡ false) {x = (n.0, w.0.1)} (ok_same (n.0, w.0.1) x n.2)
         (another_name policies w.0.0 n.0 (at_same tokens (new_name policies w.0.0) n.0 n.1))
 
-line_kept : Texts → (version : ℕ) (policies : List Policy) (number : ℕ) (line : List Lexeme)
+line_kept : Texts → (version : ℕ) (policies : List Policy) (number : ℕ) (line : Lexemes)
     → are_well_made policies ≡ true → AreText line → Kept (line_of version policies number line)
 unfolding line_of
 line_kept laws version policies number line h t new e =

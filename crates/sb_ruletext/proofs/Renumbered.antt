@@ -28,7 +28,7 @@ use Rattle.sb_text.specs.Readings.{renumbered, behind}
 use Rattle.sb_text.specs.Steps.{◌>>=◌, or_fails, unless_fails, at_token, on_value, Read, end_at}
 use Rattle.sb_text.specs.declared.refusals.TokenFault.{TokenFault}
 use Rattle.sb_text.specs.declared.refusals.WordFault.TheVariants.{Unknown, Unquoted, Extra, Broken}
-use Rattle.sb_text.specs.Tokens.{Lexeme, Word, Quoted, Bad, tokens_of}
+use Rattle.sb_text.specs.Tokens.{Lexemes, Next, End, Word, Quoted, Bad, tokens_of}
 
 then : {A B C E : Type 0} (f : B → C) (first : Result A E) (g : A → Result B E) (h : A → Result C E)
     → ((x : A) → on_value f (g x) ≡ h x) → on_value f (first >>= g) ≡ (first >>= h)
@@ -45,7 +45,7 @@ granted f line RegistryReadonly pattern = refl
 granted f line EventsAny pattern = refl
 granted f line EventsReadonly pattern = refl
 
-rule_moves : (f : ℕ → ℕ) (line : ℕ) (action : Action) (tokens : List Lexeme)
+rule_moves : (f : ℕ → ℕ) (line : ℕ) (action : Action) (tokens : Lexemes)
     → on_value (map (renumbered_rule f)) (rule line action tokens) ≡ rule (f line) action tokens
 unfolding rule
 rule_moves f line action tokens =
@@ -53,7 +53,7 @@ rule_moves f line action tokens =
     then (map (renumbered_rule f)) (unless_fails tokens NotReadOnly (is_for_readers action call.0)) _ _ (λ may.
     then (map (renumbered_rule f)) (when_of call.0 call.1) _ _ (λ conds. refl)))
 
-grant_moves : (f : ℕ → ℕ) (line : ℕ) (tokens : List Lexeme)
+grant_moves : (f : ℕ → ℕ) (line : ℕ) (tokens : Lexemes)
     → on_value (map (renumbered_rule f)) (grant line tokens) ≡ grant (f line) tokens
 unfolding grant
 grant_moves f line tokens =
@@ -109,12 +109,12 @@ last_moves f (policy ∷ next ∷ policies) rules =
     moved (map (renumbered_policy f)) (map (renumbered_policy f)) (with_last_rules (next ∷ policies) rules) _
     (λ others. Ok (policy ∷ others)) (λ others. Ok (renumbered_policy f policy ∷ others)) (last_moves f (next ∷ policies) rules) (λ others. refl)
 
-placed : {A B : Type 0} (g : A → B) (line : List Lexeme) (r : Result A PolicyFaultKind) (s : Result B PolicyFaultKind) → on_value g r ≡ s
+placed : {A B : Type 0} (g : A → B) (line : Lexemes) (r : Result A PolicyFaultKind) (s : Result B PolicyFaultKind) → on_value g r ≡ s
     → on_value g (at_token line r) ≡ at_token line s
 placed g line (Ok x) s e = ap (at_token line) e
 placed g line (Err kind) s e = ap (at_token line) e
 
-added_moves : (f : ℕ → ℕ) (line : List Lexeme) (policies : List Policy) (rules others : Result (List Rule) (TokenFault PolicyFaultKind))
+added_moves : (f : ℕ → ℕ) (line : Lexemes) (policies : List Policy) (rules others : Result (List Rule) (TokenFault PolicyFaultKind))
     → on_value (map (renumbered_rule f)) rules ≡ others
     → on_value (map (renumbered_policy f)) (added line policies rules) ≡ added line (map (renumbered_policy f) policies) others
 added_moves f line [] rules others h = refl
@@ -123,12 +123,12 @@ added_moves f line (policy ∷ policies) rules others h =
     (λ rules. at_token line (with_last_rules (map (renumbered_policy f) (policy ∷ policies)) rules)) h
     (λ rules. placed (map (renumbered_policy f)) line _ _ (last_moves f (policy ∷ policies) rules))
 
-same_name : (f : ℕ → ℕ) (policies : List Policy) (tokens : List Lexeme) → name_at policies tokens ≡ name_at (map (renumbered_policy f) policies) tokens
-same_name f policies (Word w ∷ tokens) =
-    ap (λ b. at_token (Word w ∷ tokens) (cond (is_short_name w) (cond b (Err SameName) (Ok w)) (Err (UnknownWord Unknown))) >>= λ name. Ok (name, tokens)) (sym (same_names f w policies))
-same_name f policies [] = refl
-same_name f policies (Quoted q ∷ tokens) = refl
-same_name f policies (Bad ∷ tokens) = refl
+same_name : (f : ℕ → ℕ) (policies : List Policy) (tokens : Lexemes) → name_at policies tokens ≡ name_at (map (renumbered_policy f) policies) tokens
+same_name f policies (Next place (Word w) tokens) =
+    ap (λ b. at_token (Next place (Word w) tokens) (cond (is_short_name w) (cond b (Err SameName) (Ok w)) (Err (UnknownWord Unknown))) >>= λ name. Ok (name, tokens)) (sym (same_names f w policies))
+same_name f policies (End place) = refl
+same_name f policies (Next place (Quoted q) tokens) = refl
+same_name f policies (Next place Bad tokens) = refl
 
 policy_moves : (f : ℕ → ℕ) (policies : List Policy) (name : List ℕ)
     → on_value (map (renumbered_policy f)) (with_policy policies name) ≡ with_policy (map (renumbered_policy f) policies) name
@@ -139,7 +139,7 @@ policy_moves f policies name =
     ∙ ap (λ n. cond (nat_lt n 8) (Ok (map (renumbered_policy f) policies ++ record { name = name; rules = [] } ∷ [])) (Err (TooMany Policies)))
     (sym (length_map (renumbered_policy f) policies))
 
-heading_moves : (f : ℕ → ℕ) (policies : List Policy) (line tokens : List Lexeme)
+heading_moves : (f : ℕ → ℕ) (policies : List Policy) (line tokens : Lexemes)
     → on_value (map (renumbered_policy f)) (heading policies line tokens) ≡ heading (map (renumbered_policy f) policies) line tokens
 unfolding heading
 heading_moves f policies line tokens =
@@ -151,18 +151,18 @@ heading_moves f policies line tokens =
     >>= λ name. end_at (UnknownWord Extra) (UnknownWord Broken) name.1 >>= λ end. at_token line (with_policy (map (renumbered_policy f) policies) name.0)) (same_name f policies tokens)
 
 -- a line adds the same, with other numbers
-line_moves : (f : ℕ → ℕ) (version : ℕ) (policies : List Policy) (line : ℕ) (tokens : List Lexeme)
+line_moves : (f : ℕ → ℕ) (version : ℕ) (policies : List Policy) (line : ℕ) (tokens : Lexemes)
     → on_value (map (renumbered_policy f)) (line_of version policies line tokens) ≡ line_of version (map (renumbered_policy f) policies) (f line) tokens
 unfolding line_of
-line_moves f version policies line (Word w ∷ tokens) =
-    choice (map (renumbered_policy f)) (is_word (codes "policy") w) _ _ _ _ (heading_moves f policies (Word w ∷ tokens) tokens)
+line_moves f version policies line (Next place (Word w) tokens) =
+    choice (map (renumbered_policy f)) (is_word (codes "policy") w) _ _ _ _ (heading_moves f policies (Next place (Word w) tokens) tokens)
     (choice (map (renumbered_policy f)) (is_word (codes "grant") w) _ _ _ _
-    (added_moves f (Word w ∷ tokens) policies (grant line tokens) (grant (f line) tokens) (grant_moves f line tokens))
-    (then (map (renumbered_policy f)) (or_fails (Word w ∷ tokens) (first_word_fault w) (action_of version w)) _ _
-    (λ action. added_moves f (Word w ∷ tokens) policies (rule line action tokens) (rule (f line) action tokens) (rule_moves f line action tokens))))
-line_moves f version policies line [] = refl
-line_moves f version policies line (Quoted q ∷ tokens) = refl
-line_moves f version policies line (Bad ∷ tokens) = refl
+    (added_moves f (Next place (Word w) tokens) policies (grant line tokens) (grant (f line) tokens) (grant_moves f line tokens))
+    (then (map (renumbered_policy f)) (or_fails (Next place (Word w) tokens) (first_word_fault w) (action_of version w)) _ _
+    (λ action. added_moves f (Next place (Word w) tokens) policies (rule line action tokens) (rule (f line) action tokens) (rule_moves f line action tokens))))
+line_moves f version policies line (End place) = refl
+line_moves f version policies line (Next place (Quoted q) tokens) = refl
+line_moves f version policies line (Next place Bad tokens) = refl
 
 pub skipped_lines_count_alone : laws.SkippedLinesCountAlone (List Policy) PolicyFaultKind → SkippedLinesCountAlone
 skipped_lines_count_alone law front line rest i k s u v =

@@ -20,9 +20,9 @@ use Rattle.sb_ruletext.specs.declared.faults.PolicyFaultKind.{PolicyFaultKind}
 use Rattle.sb_ruletext.specs.declared.faults.PolicyLimit.TheVariants.{Policies, Rules}
 use Rattle.sb_ruletext.specs.declared.faults.PolicyFaultKind.TheVariants.{UnknownWord, UnknownCall, TooMany, SameName, NoHeading, NotReadOnly}
 use Rattle.sb_ruletext.specs.declared.grants.Grant.{Grant}
-use Rattle.sb_text.specs.Spots.{fails}
+use Rattle.sb_text.specs.Columns.{fails}
 use Rattle.sb_text.specs.Steps.{◌>>=◌, or_fails, unless_fails, at_token, Read, begins_with, later, is_end}
-use Rattle.sb_text.specs.Tokens.{Lexeme, Bad}
+use Rattle.sb_text.specs.Tokens.{Lexemes, Next, Bad}
 use Rattle.sb_text.specs.declared.refusals.TokenFault.{TokenFault}
 use Rattle.sb_text.specs.declared.refusals.WordFault.TheVariants.{Unknown, Broken, Quoted, Unquoted, Misplaced}
 
@@ -34,7 +34,7 @@ new_name policies name =
     else Err (UnknownWord Unknown)
 
 -- the name of a policy
-abbrev pub name_at : List Policy → List Lexeme → Read (List ℕ) PolicyFaultKind
+abbrev pub name_at : List Policy → Lexemes → Read (List ℕ) PolicyFaultKind
 name_at policies tokens = do
   (word, rest) ← word_or (UnknownWord Quoted) tokens
   name ← at_token tokens (new_name policies word)
@@ -46,32 +46,32 @@ with_policy policies name =
     if nat_lt (length policies) most_policies then Ok (policies ++ record { name = name; rules = [] } ∷ []) else Err (TooMany Policies)
 
 -- `policy NAME`: the policies so far and this one. One too many is a fault of the whole line
-unfoldable pub heading : List Policy → List Lexeme → List Lexeme → Result (List Policy) (TokenFault PolicyFaultKind)
+unfoldable pub heading : List Policy → Lexemes → Lexemes → Result (List Policy) (TokenFault PolicyFaultKind)
 heading policies line tokens = do
   (name, rest) ← name_at policies tokens
   end ← line_end rest
   at_token line (with_policy policies name)
 
 -- the name of a call
-abbrev pub call_at : List Lexeme → Read CallTag PolicyFaultKind
+abbrev pub call_at : Lexemes → Read CallTag PolicyFaultKind
 call_at tokens = do
   (word, rest) ← word_or UnknownCall tokens
   tag ← or_fails tokens UnknownCall (tag_of_word word)
   Ok (tag, rest)
 
 -- what is here in place of `when`
-abbrev pub end_at_when : {A : Type 0} → List Lexeme → Result A (TokenFault PolicyFaultKind)
-end_at_when (Bad ∷ tokens) = fails (Bad ∷ tokens) (UnknownWord Broken)
+abbrev pub end_at_when : {A : Type 0} → Lexemes → Result A (TokenFault PolicyFaultKind)
+end_at_when (Next place Bad tokens) = fails (Next place Bad tokens) (UnknownWord Broken)
 end_at_when tokens = fails tokens (UnknownWord Unknown)
 
 -- nothing, or `when` and conditions, up to the line's end
-abbrev pub when_of : CallTag → List Lexeme → Result (List Cond) (TokenFault PolicyFaultKind)
+abbrev pub when_of : CallTag → Lexemes → Result (List Cond) (TokenFault PolicyFaultKind)
 when_of tag tokens =
     if is_end tokens then Ok []
     else (if begins_with (codes "when") tokens then conditions_of tag (later tokens) else end_at_when tokens)
 
 -- `ACTION CALL` and `ACTION CALL when COND and COND ..`, after its first word: the rule
-unfoldable pub rule : ℕ → Action → List Lexeme → Result (List Rule) (TokenFault PolicyFaultKind)
+unfoldable pub rule : ℕ → Action → Lexemes → Result (List Rule) (TokenFault PolicyFaultKind)
 rule line action tokens = do
   (tag, rest) ← call_at tokens
   may ← unless_fails tokens NotReadOnly (is_for_readers action tag)
@@ -79,14 +79,14 @@ rule line action tokens = do
   Ok (record { tag = tag; conds = conds; action = action; line = line } ∷ [])
 
 -- the word of a grant
-abbrev pub grant_at : List Lexeme → Read Grant PolicyFaultKind
+abbrev pub grant_at : Lexemes → Read Grant PolicyFaultKind
 grant_at tokens = do
   (word, rest) ← word_or (UnknownWord Quoted) tokens
   grant ← or_fails tokens (UnknownWord Unknown) (grant_of word)
   Ok (grant, rest)
 
 -- `grant GRANT "PATTERN"`, after its first word: the rules of the grant
-unfoldable pub grant : ℕ → List Lexeme → Result (List Rule) (TokenFault PolicyFaultKind)
+unfoldable pub grant : ℕ → Lexemes → Result (List Rule) (TokenFault PolicyFaultKind)
 grant line tokens = do
   (grant, rest) ← grant_at tokens
   (cells, after) ← cells_at (UnknownWord Unquoted) rest
@@ -106,14 +106,14 @@ with_last_rules (policy ∷ next ∷ policies) rules = with_last_rules (next ∷
 
 -- the policies with the rules of a grant at the end of the last: NoHeading, or the fault of the grant, or too many rules. The first and the last are
 -- faults of the whole line
-abbrev pub with_grant : List Policy → ℕ → List Lexeme → List Lexeme → Result (List Policy) (TokenFault PolicyFaultKind)
+abbrev pub with_grant : List Policy → ℕ → Lexemes → Lexemes → Result (List Policy) (TokenFault PolicyFaultKind)
 with_grant policies number line tokens = do
   headed ← unless_fails line NoHeading (is_headed policies)
   rules ← grant number tokens
   at_token line (with_last_rules policies rules)
 
 -- the same of a rule
-abbrev pub with_rule : List Policy → ℕ → Action → List Lexeme → List Lexeme → Result (List Policy) (TokenFault PolicyFaultKind)
+abbrev pub with_rule : List Policy → ℕ → Action → Lexemes → Lexemes → Result (List Policy) (TokenFault PolicyFaultKind)
 with_rule policies number action line tokens = do
   headed ← unless_fails line NoHeading (is_headed policies)
   rules ← rule number action tokens
@@ -124,7 +124,7 @@ abbrev pub first_word_fault : List ℕ → PolicyFaultKind
 first_word_fault word = if is_word (codes "readonly") word then UnknownWord Misplaced else UnknownWord Unknown
 
 -- the policies so far and what a line adds to them
-unfoldable pub line_of : ℕ → List Policy → ℕ → List Lexeme → Result (List Policy) (TokenFault PolicyFaultKind)
+unfoldable pub line_of : ℕ → List Policy → ℕ → Lexemes → Result (List Policy) (TokenFault PolicyFaultKind)
 line_of version policies number line = do
   (word, rest) ← word_or (UnknownWord Quoted) line
   if is_word (codes "policy") word then heading policies line rest

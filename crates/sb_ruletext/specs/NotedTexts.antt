@@ -8,7 +8,7 @@ use Rattle.sb_ruletext.specs.declared.faults.PolicyFaultKind.TheVariants.{BadVer
 use Rattle.sb_ruletext.specs.declared.notes.Note.{Note}
 use Rattle.sb_text.specs.Lines.{NumberedLine}
 use Rattle.sb_text.specs.Readings.{Grammar}
-use Rattle.sb_text.specs.Spots.{by_tokens}
+use Rattle.sb_text.specs.Tokens.{by_tokens}
 use Rattle.sb_text.specs.Steps.{◌>>=◌}
 use Rattle.sb_text.specs.declared.refusals.TokenFault.{TokenFault}
 

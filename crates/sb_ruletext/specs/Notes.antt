@@ -6,9 +6,9 @@ use Rattle.sb_ruletext.specs.NoteKinds.{kind_of}
 use Rattle.sb_ruletext.specs.declared.note_kinds.NoteKind.{NoteKind}
 use Rattle.sb_ruletext.specs.declared.notes.Note.{Note}
 use Rattle.sb_text.specs.Lines.{NumberedLine, lines_of}
-use Rattle.sb_text.specs.Spots.{by_tokens, column_at}
-use Rattle.sb_text.specs.Steps.{begins_with, later, with_first}
-use Rattle.sb_text.specs.Tokens.{Lexeme, Word, Quoted, Bad, string_of, tokens_of}
+use Rattle.sb_text.specs.Columns.{column_at}
+use Rattle.sb_text.specs.Steps.{begins_with, later}
+use Rattle.sb_text.specs.Tokens.{Lexeme, Lexemes, Next, End, Word, Quoted, Bad, by_tokens, string_of, tokens_of}
 use Rattle.sb_text.specs.Utf8.{not_utf8_place}
 
 -- In a text without a fault a quoted token is a string if it follows the word `is`, and a pattern otherwise: after `like`, or after the word of a grant.
@@ -24,19 +24,18 @@ abbrev pub note_at : Bool → Lexeme → Option NoteKind
 note_at false (Quoted q) = kind_of (string_of q)
 note_at is_string _ = None
 
--- the note of a token of a line at which this many tokens are left, if there is one
+-- the note of a token at a place of a line, if there is one
 abbrev pub noted : NumberedLine → ℕ → Option NoteKind → List Note
-noted line left None = []
-noted line left (Some kind) = record { line = line.number; column = column_at by_tokens line.text left None; kind = kind } ∷ []
+noted line place None = []
+noted line place (Some kind) = record { line = line.number; column = column_at by_tokens line.text place; kind = kind } ∷ []
 
 -- the notes of the tokens of a line from one on, which is a string or not
-abbrev pub notes_in : NumberedLine → Bool → List Lexeme → List Note
-notes_in line is_string [] = []
-notes_in line is_string (token ∷ tokens) =
-    noted line (with_first tokens) (note_at is_string token) ++ notes_in line (follows_is token) tokens
+abbrev pub notes_in : NumberedLine → Bool → Lexemes → List Note
+notes_in line is_string (End place) = []
+notes_in line is_string (Next place token tokens) = noted line place (note_at is_string token) ++ notes_in line (follows_is token) tokens
 
 -- the patterns of a line are on names: `ping` alone has a parameter that is a text and no name
-abbrev pub is_about_names : List Lexeme → Bool
+abbrev pub is_about_names : Lexemes → Bool
 is_about_names tokens = not (begins_with (codes "ping") (later tokens))
 
 -- the notes of a line

@@ -6,9 +6,8 @@ use Rattle.sb_ruletext.specs.declared.faults.PolicyFaultKind.{PolicyFaultKind}
 use Rattle.sb_ruletext.specs.declared.faults.PolicyFaultKind.TheVariants.{NotUtf8, BadVersion}
 use Rattle.sb_text.specs.Lines.{NumberedLine}
 use Rattle.sb_text.specs.Readings.{Grammar, read_text}
-use Rattle.sb_text.specs.Spots.{by_tokens}
 use Rattle.sb_text.specs.Steps.{version_at}
-use Rattle.sb_text.specs.Tokens.{tokens_of}
+use Rattle.sb_text.specs.Tokens.{by_tokens, tokens_of}
 use Rattle.sb_text.specs.declared.refusals.LineFault.{LineFault}
 use Rattle.sb_text.specs.declared.refusals.TokenFault.{TokenFault}
 

@@ -18,7 +18,7 @@ use crate::words::parameter_of;
 use sb_base::{Wide, is_word};
 use sb_call::CallTag;
 use sb_rule::{
-    Cond, Conds, MOST_CONDITIONS, MOST_NUMBERS, MOST_UNITS, Numbers, Pattern, PatternFault,
+    Cond, Conds, MAX_CONDITIONS, MAX_NUMBERS, MAX_UNITS, Numbers, Pattern, PatternFault,
     PatternRefused, Test,
 };
 use sb_text::{Token, Tokens, WordFault, number_of, or_fails, string_of};
@@ -49,7 +49,7 @@ fn numbers_at(alloc: Global, tokens: &mut Tokens) -> Result<Numbers, LineRefused
     ensures { Reads (numbers_at tokens.old) result tokens.new }
 {
     let mut numbers = Numbers::empty(alloc);
-    while numbers.len() < MOST_NUMBERS {
+    while numbers.len() < MAX_NUMBERS {
         numbers.push(number_at(tokens)?)?;
         if !tokens.pass_word(b"or") {
             return Ok(numbers);
@@ -119,7 +119,7 @@ fn string(alloc: Global, due: &Tokens, quoted: &str) -> Result<Wide, LineRefused
     ensures { Gives (at_token due.now (string quoted.now)) result }
 {
     let text = string_of(alloc, quoted)?;
-    if text.len() > MOST_UNITS {
+    if text.len() > MAX_UNITS {
         return Err(due.fail(BadPattern(PatternFault::TooLong)));
     }
     Ok(text)
@@ -294,7 +294,7 @@ fn conditions_at(alloc: Global, tag: CallTag, tokens: &mut Tokens) -> Result<Con
     ensures { Reads (conditions_at tag tokens.old) result tokens.new }
 {
     let mut conds = Conds::empty(alloc);
-    while conds.len() < MOST_CONDITIONS {
+    while conds.len() < MAX_CONDITIONS {
         conds.push(condition_at(alloc, tag, tokens)?)?;
         if !tokens.pass_word(b"and") {
             return Ok(conds);

@@ -10,7 +10,7 @@ ghost use Rattle.sb_text.specs.Steps.{Becomes, at_token};
 use crate::faults::{LineRefused, PolicyFaultKind, PolicyLimit};
 use sb_base::NoMemory;
 use sb_call::ShortName;
-use sb_rule::{MOST_POLICIES, MOST_RULES, Policy, PolicyList, Rule, Rules};
+use sb_rule::{MAX_POLICIES, MAX_RULES, Policy, PolicyList, Rule, Rules};
 use sb_text::Tokens;
 use std::alloc::Global;
 use std::marker::Model;
@@ -72,7 +72,7 @@ impl Draft {
         ensures { result ≡ nat_lt (length self.now) most_policies }
     {
         match &self.last_name {
-            Some(_) => self.before.len() < MOST_POLICIES - 1,
+            Some(_) => self.before.len() < MAX_POLICIES - 1,
             None => true,
         }
     }
@@ -110,7 +110,7 @@ impl Draft {
         if self.last_name.is_none() {
             return Err(line.fail(PolicyFaultKind::NoHeading));
         }
-        if self.last_rules.len() + rules.len() > MOST_RULES {
+        if self.last_rules.len() + rules.len() > MAX_RULES {
             return Err(line.fail(PolicyFaultKind::TooMany(PolicyLimit::Rules)));
         }
         let mut rules = rules.into_items();

@@ -5,7 +5,7 @@ ghost use Rattle.sb_ruletext.specs.NotedTexts.{noted_grammar};
 ghost use Rattle.sb_ruletext.specs.Notes.{notes_of};
 ghost use Rattle.sb_ruletext.specs.PolicyTexts.{reading};
 ghost use Rattle.sb_ruletext.specs.declared.faults.PolicyFaultKind.TheVariants.{BadVersion};
-ghost use Rattle.sb_text.specs.Spots.{by_tokens};
+ghost use Rattle.sb_text.specs.Tokens.{by_tokens};
 
 use crate::drafts::Draft;
 use crate::faults::{LineRefused, PolicyFaultKind, TextRefused};

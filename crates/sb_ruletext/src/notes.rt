@@ -2,7 +2,6 @@
 ghost use Rattle.std.specs.Prelude.{◌≡◌, ◌+◌, ◌<◌, ◌^◌, ◌++◌, false, length, true, IfOk, MatchOption, OnOk};
 ghost use Rattle.std.specs.List.{flat_map};
 ghost use Rattle.sb_ruletext.specs.Notes.{follows_is, is_about_names, is_read, note_at, notes_in, notes_of, notes_on, noted};
-ghost use Rattle.sb_text.specs.Steps.{with_first};
 ghost use Rattle.sb_text.specs.Tokens.{lexeme_of};
 
 use crate::note_kinds::{NoteKind, kind_of_quoted};
@@ -26,7 +25,7 @@ fn is_about_names(tokens: &Tokens) -> bool
     ensures { result ≡ is_about_names tokens.now }
 {
     let mut later = tokens.copy();
-    later.next_token();
+    later.pass();
     !later.begins_with(b"ping")
 }
 
@@ -50,22 +49,21 @@ fn kind_at(alloc: Global, is_string: bool, token: Token<'_>) -> Result<Option<No
     }
 }
 
-// Appends the note of a token of a line, which these tokens follow, if there is one.
+// Appends the note of the token at a place of a line, if there is one.
 fn put_noted(
     notes: &mut Vec<Note>,
     line: &Line,
-    later: &Tokens,
+    place: usize,
     kind: Option<NoteKind>,
 ) -> Result<(), NoMemory>
     requires { length line.now.text.now + 1 < 2 ^ 32 }
     ensures { OnOk result (notes.new.items ≡ notes.old.items
-        ++ noted (record { number = line.now.number; text = line.now.text.now }) (with_first later.now) kind) }
+        ++ noted (record { number = line.now.number; text = line.now.text.now }) place kind) }
 {
     if let Some(kind) = kind {
-        let left = 1 + later.left();
         notes.push(Note {
             line: line.number,
-            column: column_at(Layout::Text, line.text.as_bytes(), left, None),
+            column: column_at(Layout::Text, line.text.as_bytes(), place),
             kind,
         })?;
     }
@@ -73,7 +71,7 @@ fn put_noted(
 }
 
 // Appends the notes of the tokens of a line.
-#[tactic(auto, using(crate::proofs::NoteWalks::token_passed, crate::proofs::NoteWalks::tokens_ended))]
+#[tactic(auto, using(crate::proofs::NoteWalks::token_passed, crate::proofs::NoteWalks::tokens_ended, crate::proofs::NoteWalks::fewer))]
 fn put_notes_in(
     alloc: Global,
     notes: &mut Vec<Note>,
@@ -86,10 +84,11 @@ fn put_notes_in(
 {
     let mut tokens = tokens;
     let mut is_string = false;
-    while let Some(token) = tokens.next_token() {
+    while let Some(token) = tokens.peek() {
         let kind = kind_at(alloc, is_string, token)?;
-        put_noted(notes, line, &tokens, kind)?;
+        put_noted(notes, line, tokens.place(), kind)?;
         is_string = is_equality(token);
+        tokens.pass();
     }
     Ok(())
 }

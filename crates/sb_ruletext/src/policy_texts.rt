@@ -3,7 +3,7 @@ ghost use Rattle.std.specs.Prelude.{◌≡◌, ◌+◌, ◌<◌, ◌^◌, [], le
 ghost use Rattle.sb_ruletext.specs.PolicyTexts.{grammar, policy_version, reading};
 ghost use Rattle.sb_ruletext.specs.declared.faults.PolicyFaultKind.TheVariants.{BadVersion};
 ghost use Rattle.sb_base.specs.Refusals.{Gives, GivesAs};
-ghost use Rattle.sb_text.specs.Spots.{by_tokens};
+ghost use Rattle.sb_text.specs.Tokens.{by_tokens};
 
 use crate::drafts::Draft;
 use crate::faults::{LineRefused, PolicyFaultKind, TextRefused};

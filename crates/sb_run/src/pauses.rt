@@ -23,7 +23,7 @@ const LEAST_PASSES: usize = 2;
 
 // The most threads that serve and stay awake without a call. If more are awake, one that finds no call sleeps at once, and as long as a sleep may be:
 // the others serve its targets, and threads of the script need its processor.
-const MOST_AWAKE: u64 = 2;
+const MAX_AWAKE: u64 = 2;
 
 // A thread of the script yields after each of this many steps in vain, since its reply may wait for this processor.
 const EAGER: u32 = 64;
@@ -134,7 +134,7 @@ impl IdleWait {
 
     // Whether enough of the others are awake.
     fn is_spare(&self, world: &SharedWorld) -> bool {
-        (self.serving as u64).saturating_sub(world.idle_count()) > MOST_AWAKE
+        (self.serving as u64).saturating_sub(world.idle_count()) > MAX_AWAKE
     }
 
     /// A pass found no call: waits a little if it is the last of a few. A sleep ends when the run stops.

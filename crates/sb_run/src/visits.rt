@@ -17,7 +17,7 @@ use std::alloc::Global;
 use std::sync::Wait;
 
 // After this many calls others may draw the seat.
-const MOST_CALLS: u32 = 64;
+const MAX_CALLS: u32 = 64;
 
 // A try to take the turn, after the decision on the copy and the gate. If the turn is held, it looks at the stop word and rests, since it is held for a
 // short time. Before it this many tries missed.
@@ -93,7 +93,7 @@ fn advance<J: Judge, G: Gate, R: Wait>(
     made
 }
 
-/// Makes the steps of a worker until it has looked at each channel in turn and found none ready, or has served `MOST_CALLS` calls. True if it served a call.
+/// Makes the steps of a worker until it has looked at each channel in turn and found none ready, or has served `MAX_CALLS` calls. True if it served a call.
 ///
 /// # Errors
 /// `NoMemory` if there is none for a decision or an answer, or another worker ran out of memory while this one tried to take the turn. Then the stop word says
@@ -124,7 +124,7 @@ pub(crate) fn visit<J: Judge, G: Gate, R: Wait>(
                 left = channels;
                 calls += 1;
             }
-            if left == 0 || calls >= MOST_CALLS {
+            if left == 0 || calls >= MAX_CALLS {
                 break;
             }
         }

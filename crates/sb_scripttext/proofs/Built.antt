@@ -13,6 +13,7 @@ use Rattle.sb_scripttext.specs.Lines.{is_target_named}
 use Rattle.sb_scripttext.specs.SoFar.{SoFar, is_empty, change_last, last_threads, one_thread_more, one_statement_more, in_last_thread, named_by, with_thread, with_statement}
 use Rattle.sb_scripttext.specs.declared.drafts.Heading.{Heading}
 use Rattle.sb_scripttext.specs.declared.drafts.Named.{Named}
+use Rattle.sb_scripttext.specs.declared.drafts.StatementAt.{StatementAt}
 use Rattle.sb_scripttext.specs.declared.faults.ScriptKind.{ScriptKind}
 use Rattle.sb_scripttext.specs.declared.faults.ScriptKind.TheVariants.{UnknownWord, TooMany}
 use Rattle.sb_text.specs.Steps.{◌>>=◌}
@@ -165,14 +166,14 @@ thread_added sofar targets e = ap (λ (r : Result (List TargetScript) ScriptKind
 pub thread_refused : (sofar : SoFar) (kind : ScriptKind) → change_last one_thread_more sofar.targets ≡ Err kind → with_thread sofar ≡ Err kind
 thread_refused sofar kind e = ap (λ (r : Result (List TargetScript) ScriptKind). r >>= λ targets. Ok (record sofar { targets = targets })) e
 
-pub statement_added : (sofar : SoFar) (line : ℕ) (statement : Statement) (targets : List TargetScript) (named : List Named)
-    → change_last (in_last_thread statement) sofar.targets ≡ Ok targets → named ≡ sofar.named ++ named_by line statement
-    → with_statement sofar line statement ≡ Ok (record sofar { targets = targets; named = named })
-statement_added sofar line statement targets named e n =
-    ap (λ (r : Result (List TargetScript) ScriptKind). r >>= λ targets. Ok (record sofar { targets = targets; named = sofar.named ++ named_by line statement })) e
+pub statement_added : (sofar : SoFar) (at : StatementAt) (statement : Statement) (targets : List TargetScript) (named : List Named)
+    → change_last (in_last_thread statement) sofar.targets ≡ Ok targets → named ≡ sofar.named ++ named_by at statement
+    → with_statement sofar at statement ≡ Ok (record sofar { targets = targets; named = named })
+statement_added sofar at statement targets named e n =
+    ap (λ (r : Result (List TargetScript) ScriptKind). r >>= λ targets. Ok (record sofar { targets = targets; named = sofar.named ++ named_by at statement })) e
     ∙ ap (λ (named : List Named). Ok (record sofar { targets = targets; named = named })) (sym n)
 
-pub statement_refused : (sofar : SoFar) (line : ℕ) (statement : Statement) (kind : ScriptKind) → change_last (in_last_thread statement) sofar.targets ≡ Err kind
-    → with_statement sofar line statement ≡ Err kind
-statement_refused sofar line statement kind e =
-    ap (λ (r : Result (List TargetScript) ScriptKind). r >>= λ targets. Ok (record sofar { targets = targets; named = sofar.named ++ named_by line statement })) e
+pub statement_refused : (sofar : SoFar) (at : StatementAt) (statement : Statement) (kind : ScriptKind) → change_last (in_last_thread statement) sofar.targets ≡ Err kind
+    → with_statement sofar at statement ≡ Err kind
+statement_refused sofar at statement kind e =
+    ap (λ (r : Result (List TargetScript) ScriptKind). r >>= λ targets. Ok (record sofar { targets = targets; named = sofar.named ++ named_by at statement })) e

@@ -5,7 +5,7 @@ use Rattle.sb_scripttext.specs.Actors.{number_32, worker_at, thread_at, thread_n
 use Rattle.std.specs.List.{before_first, after_first}
 use Rattle.sb_scripttext.specs.Actors.{is_dot}
 use Rattle.sb_scripttext.specs.ScheduleLimits.{most_steps}
-use Rattle.sb_scripttext.specs.ScheduleLines.{within, last_number, count_at, step}
+use Rattle.sb_scripttext.specs.ScheduleLines.{any_word_at, within, last_number, count_at, step}
 use Rattle.sb_scripttext.specs.SchedulePrinting.{is_actor_of_values, is_made}
 use Rattle.sb_base.specs.Numbers.{is_word32}
 use Rattle.sb_scripttext.specs.declared.schedule_faults.ScheduleKind.{ScheduleKind}
@@ -15,8 +15,9 @@ use Rattle.sb_statements.specs.declared.schedules.Actor.{Actor}
 use Rattle.sb_statements.specs.declared.schedules.Actor.TheVariants.{Worker, Thread}
 use Rattle.sb_statements.specs.declared.scripts.TargetScript.{TargetScript}
 use Rattle.sb_text.specs.Numbers.{decimal_of, number_of}
-use Rattle.sb_text.specs.Steps.{◌>>=◌, at_left, or_fault, words_end}
-use Rattle.sb_text.specs.declared.refusals.WordFault.TheVariants.{Extra}
+use Rattle.sb_text.specs.Steps.{◌>>=◌, at_token, end_at, is_end, or_fails}
+use Rattle.sb_text.specs.Tokens.{Lexemes}
+use Rattle.sb_text.specs.declared.refusals.WordFault.TheVariants.{Broken, Extra}
 use Rattle.sb_scripttext.proofs.ScheduleConjunctions.{and_true}
 use Rattle.sb_scripttext.proofs.PrintedActors.{below_2_32}
 use Rattle.sb_scripttext.proofs.PassingSchedules.{at_made, made, ok_same, passed, was_there}
@@ -74,22 +75,25 @@ within_least lo hi word n h = by_number (number_of word) h
         let t = passed (nat_le lo m && nat_le m hi) m n BadNumber h in
         subst (λ k. nat_le lo k ≡ true) t.1 (and_parts (nat_le lo m) (nat_le m hi) t.0).0
 
-last_least : (lo hi : ℕ) (word : List ℕ) (words : List (List ℕ)) (n : ℕ) → last_number lo hi word words ≡ Ok n → nat_le lo n ≡ true
-last_least lo hi word words n h =
-    let m = made (at_left (length (word ∷ words)) (within lo hi word)) (λ m. words_end (UnknownWord Extra) words >>= λ end. Ok m) n h in
-    let e = made (words_end (UnknownWord Extra) words) (λ end. Ok m.0) n m.2 in
-    subst (λ k. nat_le lo k ≡ true) (ok_same m.0 n e.2) (within_least lo hi word m.0 (at_made (length (word ∷ words)) (within lo hi word) m.0 m.1))
+last_least : (lo hi : ℕ) (words : Lexemes) (n : ℕ) → last_number lo hi words ≡ Ok n → nat_le lo n ≡ true
+last_least lo hi words n h =
+    let w = made (any_word_at words)
+    (λ word. at_token words (within lo hi word.0) >>= λ m. end_at (UnknownWord Extra) (UnknownWord Broken) word.1 >>= λ end. Ok m) n h in
+    let m = made (at_token words (within lo hi w.0.0)) (λ m. end_at (UnknownWord Extra) (UnknownWord Broken) w.0.1 >>= λ end. Ok m) n w.2 in
+    let e = made (end_at (UnknownWord Extra) (UnknownWord Broken) w.0.1) (λ end. Ok m.0) n m.2 in
+    subst (λ k. nat_le lo k ≡ true) (ok_same m.0 n e.2) (within_least lo hi w.0.0 m.0 (at_made words (within lo hi w.0.0) m.0 m.1))
 
-count_least : (words : List (List ℕ)) (n : ℕ) → count_at words ≡ Ok n → nat_le 1 n ≡ true
-count_least [] n h = subst (λ k. nat_le 1 k ≡ true) (ok_same 1 n h) refl
-count_least (word ∷ words) n h = last_least 1 most_steps word words n h
+count_least : (words : Lexemes) (n : ℕ) → count_at words ≡ Ok n → nat_le 1 n ≡ true
+count_least words n h = by_end (is_end words) h
+  where
+    by_end : (b : Bool) → cond b (Ok 1) (last_number 1 most_steps words) ≡ Ok n → nat_le 1 n ≡ true
+    by_end true h = subst (λ k. nat_le 1 k ≡ true) (ok_same 1 n h) refl
+    by_end false h = last_least 1 most_steps words n h
 
-pub step_made : (targets : List TargetScript) (words : List (List ℕ)) (s : Actor × ℕ) → step targets words ≡ Ok s → is_made s ≡ true
-step_made targets [] s h = absurd cc
-step_made targets (word ∷ words) s h =
-    let named = at_left (length (word ∷ words)) (or_fault UnknownActor (actor_of targets word)) in
-    let a = made named (λ actor. count_at words >>= λ n. Ok (actor, n)) s h in
-    let n = made (count_at words) (λ n. Ok (a.0, n)) s a.2 in
+pub step_made : (targets : List TargetScript) (words : Lexemes) (s : Actor × ℕ) → step targets words ≡ Ok s → is_made s ≡ true
+step_made targets words s h =
+    let w = made (any_word_at words) (λ word. or_fails words UnknownActor (actor_of targets word.0) >>= λ actor. count_at word.1 >>= λ n. Ok (actor, n)) s h in
+    let a = made (or_fails words UnknownActor (actor_of targets w.0.0)) (λ actor. count_at w.0.1 >>= λ n. Ok (actor, n)) s w.2 in
+    let n = made (count_at w.0.1) (λ n. Ok (a.0, n)) s a.2 in
     subst (λ x. is_made x ≡ true) (ok_same (a.0, n.0) s n.2)
-    (and_true _ _ (actor_small targets word a.0 (was_there (actor_of targets word) a.0 UnknownActor (at_made (length (word ∷ words)) (or_fault UnknownActor (actor_of targets word)) a.0 a.1)))
-    (count_least words n.0 n.1))
+    (and_true _ _ (actor_small targets w.0.0 a.0 (was_there words UnknownActor (actor_of targets w.0.0) a.0 a.1)) (count_least w.0.1 n.0 n.1))

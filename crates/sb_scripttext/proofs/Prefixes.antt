@@ -8,7 +8,7 @@ use Rattle.sb_statements.specs.declared.scripts.TargetScript.{TargetScript}
 use Rattle.sb_rule.specs.declared.policies.Policy.{Policy}
 use Rattle.sb_scripttext.specs.SoFar.{SoFar}
 use Rattle.sb_scripttext.specs.Laws.{is_looked_for_last, FirstFaultsStay}
-use Rattle.sb_scripttext.specs.ScriptTexts.{Absence, ScriptFault, with_number, absence_fault, no_channel, no_target, grammar, first_absence, script_of, finished, reading}
+use Rattle.sb_scripttext.specs.ScriptTexts.{Absence, ScriptFault, with_number, absence_fault, no_channel, no_target, grammar, first_absence, from_place, script_of, finished, reading}
 use Rattle.sb_text.specs.MissingTexts.{line_or_empty}
 use Rattle.sb_text.specs.Steps.{◌>>=◌}
 use Rattle.sb_scripttext.specs.declared.drafts.Named.{Named}
@@ -19,7 +19,7 @@ use Rattle.sb_text.specs.Lines.{lines_of}
 use Rattle.sb_text.specs.ReadingLaws as laws
 use Rattle.sb_text.specs.Readings.{read_by, where_utf8}
 use Rattle.sb_text.specs.Utf8.{not_utf8_place}
-use Rattle.sb_text.specs.Words.{words_of}
+use Rattle.sb_text.specs.Tokens.{Lexemes, words_of}
 use Rattle.sb_text.specs.declared.refusals.TokenFault.{TokenFault}
 
 -- a text that is UTF-8 is read by its lines
@@ -37,18 +37,18 @@ absent_last targets [] = λ absence h. absurd cc
 absent_last targets (x ∷ xs) =
     by_tests (no_channel x (channels_of (slice_get targets x.target))) (no_target x (length targets)) refl refl (absent_last targets xs) (nat_lt x.target (length targets)) (nat_lt x.channel (channels_of (slice_get targets x.target)))
   where
-    told : (fault : TokenFault ScriptKind) → is_looked_for_last fault.kind ≡ true → (absence : Absence) → ◌≡◌ {A = Option Absence} (Some (x.line, fault)) (Some absence)
+    told : (fault : TokenFault ScriptKind) → is_looked_for_last fault.kind ≡ true → (absence : Absence) → ◌≡◌ {A = Option Absence} (Some (x.at.line, fault)) (Some absence)
         → is_looked_for_last absence.1.kind ≡ true
     told fault t absence h = ap (λ (absent : Option Absence). elim absent [ None ↦ true | Some absence ↦ is_looked_for_last absence.1.kind ]) (sym h) ∙ t
 
     by_tests : (c t : TokenFault ScriptKind) → is_looked_for_last c.kind ≡ true → is_looked_for_last t.kind ≡ true → IsLast (first_absence targets xs) → (a b : Bool)
-        → IsLast (elim (cond a (cond b None (Some c)) (Some t)) [ None ↦ first_absence targets xs | Some fault ↦ Some (x.line, fault) ])
+        → IsLast (elim (cond a (cond b None (Some c)) (Some t)) [ None ↦ first_absence targets xs | Some fault ↦ Some (x.at.line, fault) ])
     by_tests c t p q others true true absence h = others absence h
     by_tests c t p q others true false absence h = told c p absence h
     by_tests c t p q others false b absence h = told t q absence h
 
 -- a fault stays one that is looked for last, whatever number its line names
-with_number_last : (words : List (List ℕ)) (kind : ScriptKind) → is_looked_for_last kind ≡ true → is_looked_for_last (with_number words kind) ≡ true
+with_number_last : (words : Lexemes) (kind : ScriptKind) → is_looked_for_last kind ≡ true → is_looked_for_last (with_number words kind) ≡ true
 with_number_last words (NoSuchTarget target targets) h = refl
 with_number_last words (NoSuchChannel channel target channels) h = refl
 with_number_last words NotUtf8 h = h
@@ -74,7 +74,7 @@ finished_last text sofar fault h = by_absence (first_absence sofar.targets sofar
         → ◌≡◌ {A = Result Script ScriptFault} (elim absent [ None ↦ Ok (script_of sofar) | Some absence ↦ Err (absence_fault text absence) ]) (Err fault)
         → is_looked_for_last fault.kind ≡ true
     by_absence None l h = absurd cc
-    by_absence (Some absence) l h = same_last (absence_fault text absence) fault h ∙ with_number_last (words_of (line_or_empty absence.0 text)) absence.1.kind (l absence refl)
+    by_absence (Some absence) l h = same_last (absence_fault text absence) fault h ∙ with_number_last (words_of (from_place (line_or_empty absence.0 text) absence.1.place)) absence.1.kind (l absence refl)
 
 abbrev fault_in : {A : Type 0} → Result A ScriptFault → Option ScriptFault
 fault_in (Ok x) = None

@@ -19,7 +19,7 @@ use Rattle.sb_statements.specs.declared.schedules.Actor.TheVariants.{Worker, Thr
 use Rattle.sb_statements.specs.declared.scripts.TargetScript.{TargetScript}
 use Rattle.sb_text.specs.NumberLaws.{DecimalsAreRead}
 use Rattle.sb_text.specs.Numbers.{is_decimal_digit}
-use Rattle.sb_text.specs.Words.{is_some_word}
+use Rattle.sb_text.specs.TokenLaws.{is_some_word}
 use Rattle.sb_scripttext.proofs.ScheduleConjunctions.{both, and_true, all_more}
 use Rattle.sb_scripttext.proofs.PrintedScheduleLines.{is_plain}
 use Rattle.sb_text.specs.PlainLines.{is_plain_byte}

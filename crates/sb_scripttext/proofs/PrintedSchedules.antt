@@ -9,7 +9,7 @@ use Rattle.std.proofs.lemmas.List.Folds.{list_all-append}
 use Rattle.std.proofs.lemmas.List.Sums.{sum_by-cons}
 use Rattle.sb_scripttext.specs.ScheduleDrafts.{Drafted, step_count, with_step, finished}
 use Rattle.sb_scripttext.specs.ScheduleLimits.{most_steps, most_rounds}
-use Rattle.sb_scripttext.specs.ScheduleLines.{count_at, step, rounds, line_by, line_of}
+use Rattle.sb_scripttext.specs.ScheduleLines.{count_at, last_number, step, line_by, line_of}
 use Rattle.sb_scripttext.specs.SchedulePrinting.{actor_word, version_words, step_words, rounds_words, schedule_lines, written, is_actor_of_values, is_made, in_order}
 use Rattle.sb_scripttext.specs.SchedulePrintingLaws.{WrittenSchedulesAreRead, OrdersAreRead, ReadSchedulesAreReadAgain}
 use Rattle.sb_scripttext.specs.ScheduleTexts.{ScheduleFault, grammar}
@@ -22,11 +22,11 @@ use Rattle.sb_statements.specs.declared.scripts.TargetScript.{TargetScript}
 use Rattle.sb_text.specs.Lines.{NumberedLine, raw_lines}
 use Rattle.sb_text.specs.NumberLaws.{DecimalsAreRead}
 use Rattle.sb_text.specs.Readings.{on_line, read_lines, read_by}
-use Rattle.sb_text.specs.Spots.{by_words}
-use Rattle.sb_text.specs.Steps.{◌>>=◌, at_left, or_fault, words_end}
-use Rattle.sb_text.specs.WordVersions.{version_in_words}
+use Rattle.sb_text.specs.Steps.{◌>>=◌, at_token, end_at, or_fails, version_at}
+use Rattle.sb_text.specs.TokenLaws.{placed}
+use Rattle.sb_text.specs.Tokens.{Lexemes, Word, by_words}
 use Rattle.sb_text.specs.declared.refusals.TokenFault.{TokenFault}
-use Rattle.sb_text.specs.declared.refusals.WordFault.TheVariants.{Extra, NoVersion}
+use Rattle.sb_text.specs.declared.refusals.WordFault.TheVariants.{Broken, Extra, NoVersion}
 use Rattle.sb_text.specs.PlainLines.{PlainLinesAreRead, PlainWordsAreRead, words_line}
 use Rattle.sb_scripttext.proofs.ScheduleBounds.{actors_are_there, actors_make_steps, steps_are_counted, rounds_are_counted}
 use Rattle.sb_scripttext.proofs.ScheduleConjunctions.{both, and_true}
@@ -53,25 +53,34 @@ at_most n most h = grind (arith, nat_tests)
 
 -- a count of steps, and one of rounds
 
-count_read : DecimalsAreRead → (n : ℕ) → nat_le 1 n ≡ true → n ≤ 100000 → count_at (decimal n ∷ []) ≡ Ok n
+-- the words of a line, from one on
+abbrev words_at : List (List ℕ) → Lexemes
+words_at words = placed (map Word words)
+
+-- what `last_number` does with a number, after which the line ends
+abbrev ended : Lexemes → Result ℕ ScheduleKind → Result ℕ (TokenFault ScheduleKind)
+ended due read = at_token due read >>= λ n. end_at (UnknownWord Extra) (UnknownWord Broken) (placed []) >>= λ end. Ok n
+
+count_read : DecimalsAreRead → (n : ℕ) → nat_le 1 n ≡ true → n ≤ 100000 → count_at (words_at (decimal n ∷ [])) ≡ Ok n
 count_read law n one most =
-    ap (λ (read : Result ℕ ScheduleKind). at_left 1 read >>= λ n. words_end (UnknownWord Extra) [] >>= λ end. Ok n)
+    ap (ended (words_at (decimal n ∷ [])))
     (within_back law 1 most_steps n (omega (arith, most)) (and_true (nat_le 1 n) (nat_le n most_steps) one (at_most n most_steps most)))
 
 least : (n : ℕ) → nat_le 0 n ≡ true
 least n = grind (arith, nat_tests)
 
-rounds_read : DecimalsAreRead → (n : ℕ) → n ≤ 20000000 → rounds (decimal n ∷ []) ≡ Ok n
+rounds_read : DecimalsAreRead → (n : ℕ) → n ≤ 20000000 → last_number 0 most_rounds (words_at (decimal n ∷ [])) ≡ Ok n
 rounds_read law n most =
-    ap (λ (read : Result ℕ ScheduleKind). at_left 1 read >>= λ n. words_end (UnknownWord Extra) [] >>= λ end. Ok n)
+    ap (ended (words_at (decimal n ∷ [])))
     (within_back law 0 most_rounds n (omega (arith, most)) (and_true (nat_le 0 n) (nat_le n most_rounds) (least n) (at_most n most_rounds most)))
 
 -- an actor and its count
 
 step_read : DecimalsAreRead → (targets : List TargetScript) (actor : Actor) (n : ℕ) → is_there targets actor ≡ true → is_actor_of_values actor ≡ true
-    → nat_le 1 n ≡ true → n ≤ 100000 → step targets (actor_word actor ∷ decimal n ∷ []) ≡ Ok (actor, n)
+    → nat_le 1 n ≡ true → n ≤ 100000 → step targets (words_at (actor_word actor ∷ decimal n ∷ [])) ≡ Ok (actor, n)
 step_read law targets actor n there small one most =
-    ap (λ (read : Option Actor). at_left 2 (or_fault UnknownActor read) >>= λ actor. count_at (decimal n ∷ []) >>= λ n. Ok (actor, n)) (actor_read law targets actor there small)
+    ap (λ (read : Option Actor). or_fails (words_at (actor_word actor ∷ decimal n ∷ [])) UnknownActor read >>= λ actor. count_at (words_at (decimal n ∷ []))
+    >>= λ n. Ok (actor, n)) (actor_read law targets actor there small)
     ∙ ap (λ (read : Result ℕ (TokenFault ScheduleKind)). read >>= λ n. Ok (actor, n)) (count_read law n one most)
 
 room : (done : List (Actor × ℕ)) (s : Actor × ℕ) → nat_le (step_count done + s.1) most_steps ≡ true → with_step (drafted done) s ≡ Ok (drafted (done ++ s ∷ []))
@@ -80,15 +89,16 @@ room done s h = ap {B = Result Drafted ScheduleKind} (λ t. cond t (Ok (drafted 
 -- the lines
 
 step_line : DecimalsAreRead → (targets : List TargetScript) (done : List (Actor × ℕ)) (s : Actor × ℕ) → is_step_there targets s ≡ true → is_made s ≡ true
-    → s.1 ≤ 100000 → nat_le (step_count done + s.1) most_steps ≡ true → line_of targets (drafted done) (step_words s) ≡ Ok (drafted (done ++ s ∷ []))
+    → s.1 ≤ 100000 → nat_le (step_count done + s.1) most_steps ≡ true → line_of targets (drafted done) (words_at (step_words s)) ≡ Ok (drafted (done ++ s ∷ []))
 unfolding line_of line_by
 step_line law targets done s there made most few =
-    ap (λ (read : Result (Actor × ℕ) (TokenFault ScheduleKind)). read >>= λ s. at_left 1 (with_step (drafted done) s))
+    let last = words_at (decimal s.1 ∷ []) in
+    ap (λ (read : Result (Actor × ℕ) (TokenFault ScheduleKind)). read >>= λ s. at_token last (with_step (drafted done) s))
     (step_read law targets s.0 s.1 there (both _ _ made).0 (both _ _ made).1 most)
-    ∙ ap (at_left 1) (room done s few)
+    ∙ ap (at_token last) (room done s few)
 
 rounds_line : DecimalsAreRead → (targets : List TargetScript) (steps : List (Actor × ℕ)) (n : ℕ) → n ≤ 20000000
-    → line_of targets (drafted steps) (rounds_words n) ≡ Ok (told steps n)
+    → line_of targets (drafted steps) (words_at (rounds_words n)) ≡ Ok (told steps n)
 unfolding line_of line_by
 rounds_line law targets steps n most = ap (λ (read : Result ℕ (TokenFault ScheduleKind)). read >>= λ n. Ok (told steps n)) (rounds_read law n most)
 
@@ -100,10 +110,10 @@ rounds_plain law n most = and_true _ _ (decimal_plain law n (omega (arith, most)
 
 -- a line is read, and then those after it
 line_read : Laws → (targets : List TargetScript) (draft more : Drafted) (n : ℕ) (words : List (List ℕ)) (lines : List (List (List ℕ))) → is_plain_line words ≡ true
-    → line_of targets draft words ≡ Ok more → read_lines (grammar targets) 1 draft (numbered n (words ∷ lines)) ≡ read_lines (grammar targets) 1 more (numbered (n + 1) lines)
+    → line_of targets draft (words_at words) ≡ Ok more → read_lines (grammar targets) 1 draft (numbered n (words ∷ lines)) ≡ read_lines (grammar targets) 1 more (numbered (n + 1) lines)
 unfolding read_lines
 line_read laws targets draft more n words lines p e =
-    ap (λ (found : List (List ℕ)). on_line by_words (record { number = n; text = words_line words }) (line_of targets draft found) >>= λ more. read_lines (grammar targets) 1 more (numbered (n + 1) lines)) (laws.words words p)
+    ap (λ (found : Lexemes). on_line by_words (record { number = n; text = words_line words }) (line_of targets draft found) >>= λ more. read_lines (grammar targets) 1 more (numbered (n + 1) lines)) (laws.words words p)
     ∙ ap (λ (r : Result Drafted (TokenFault ScheduleKind)). on_line by_words (record { number = n; text = words_line words }) r >>= λ more. read_lines (grammar targets) 1 more (numbered (n + 1) lines)) e
 
 -- the steps of a schedule, after those that were read
@@ -154,7 +164,7 @@ written_read laws targets schedule there made few most =
     let below = numbered 2 (map step_words schedule.steps ++ rounds_words schedule.rounds ∷ []) in
     let count = length (raw_lines (written schedule)) in
     ap (λ (lines : List NumberedLine). read_by (grammar targets) lines >>= λ draft. finished count draft) (lines_back laws.lines (schedule_lines schedule) plain)
-    ∙ ap (λ (found : List (List ℕ)). (on_line by_words (record { number = 1; text = words_line version_words }) (version_in_words (UnknownWord NoVersion) (codes "sandbox-schedule") found)
+    ∙ ap (λ (found : Lexemes). (on_line by_words (record { number = 1; text = words_line version_words }) (version_at (UnknownWord NoVersion) (codes "sandbox-schedule") 1 found)
     >>= λ version. read_lines (grammar targets) version (drafted []) below) >>= λ draft. finished count draft)
     (laws.words version_words refl)
     ∙ ap (λ (read : Result Drafted ScheduleFault). read >>= λ draft. finished count draft) (body_read laws targets schedule.steps schedule.rounds there made few most)

@@ -28,7 +28,7 @@ use Rattle.sb_scripttext.proofs.Ready.{all_more, on_this, start_made}
 use Rattle.sb_scripttext.proofs.Sound.{at_made, both, made, ok_same, passed, branches}
 use Rattle.sb_scripttext.specs.Arguments.{most_32, tag_at, arg_at, args_at, fitting, call}
 use Rattle.sb_scripttext.specs.StartFaults.{start_fault}
-use Rattle.sb_scripttext.specs.SoFar.{SoFar, nothing, change_last, is_opening, is_in_thread, with_patience, with_start, with_target, one_thread_more, with_thread, one_statement_more, in_last_thread, named_by, with_statement}
+use Rattle.sb_scripttext.specs.SoFar.{SoFar, nothing, change_last, is_opening, is_in_thread, with_patience, with_start, with_target, one_thread_more, with_thread, one_statement_more, in_last_thread, named_by, statement_at, with_statement}
 use Rattle.sb_scripttext.specs.Lines.{is_target_named, new_name, new_name_at, policy_at, heading, patience, set_patience, add_target, add_thread, at_start, misplaced, not_here, start_line, statement_line, plain_line, line_of}
 use Rattle.sb_scripttext.specs.Openings.{can_place, dir, file, key, event}
 use Rattle.sb_scripttext.specs.Readiness.{ReadScriptsHaveUnits}
@@ -43,29 +43,30 @@ use Rattle.sb_scripttext.specs.declared.faults.ScriptKind.TheVariants.{NotUtf8, 
 use Rattle.sb_text.specs.Lines.{NumberedLine, lines_of}
 use Rattle.sb_text.specs.Numbers.{is_decimal_digit, is_hexadecimal_digit, value_from, below_2_64, are_digits, decimal_of, hexadecimal_of, number_of}
 use Rattle.sb_text.specs.Readings.{on_line, read_lines, read_by, where_utf8, read_text}
-use Rattle.sb_text.specs.Spots.{by_tokens, fails_left}
-use Rattle.sb_text.specs.Steps.{◌>>=◌, at_left, at_token, or_fails, with_first, word_at, quoted_at, end_at}
+use Rattle.sb_text.specs.Columns.{fails}
+use Rattle.sb_text.specs.Steps.{◌>>=◌, at_token, or_fails, word_at, quoted_at, end_at}
 use Rattle.sb_text.specs.TokenLaws.{is_quoted_byte, is_quoted_text, has_quoted_text, QuotedTokensAreText}
-use Rattle.sb_text.specs.Tokens.{Lexeme, Word, Quoted, Bad, string_of, tokens_of}
+use Rattle.sb_text.specs.Tokens.{Lexemes, Next, End, Word, Quoted, Bad, by_tokens, lexemes, string_of, tokens_of}
 use Rattle.sb_text.specs.Utf8.{Place, not_utf8_place}
 use Rattle.sb_base.specs.Names.{is_name_of}
+use Rattle.sb_scripttext.specs.declared.drafts.StatementAt.{StatementAt}
 use Rattle.sb_base.specs.Wide.{is_unit, is_text_unit}
 use Rattle.sb_scripttext.specs.declared.faults.ScriptLimit.TheVariants.{Openings, Targets, Threads, Statements}
 use Rattle.sb_text.specs.declared.refusals.TokenFault.{TokenFault}
 use Rattle.sb_text.specs.declared.refusals.WordFault.TheVariants.{Broken, Extra, Missing, Quoted, Repeated, Unknown, Unquoted}
 
 -- what quoted tokens hold is text
-abbrev AreText : List Lexeme → Type 0
-AreText tokens = list_all is_quoted_text tokens ≡ true
+abbrev AreText : Lexemes → Type 0
+AreText tokens = list_all is_quoted_text (lexemes tokens) ≡ true
 
-word_rest : (quoted bad missing : ScriptKind) (tokens : List Lexeme) (x : List ℕ × List Lexeme) → word_at quoted bad missing tokens ≡ Ok x
+word_rest : (quoted bad missing : ScriptKind) (tokens : Lexemes) (x : List ℕ × Lexemes) → word_at quoted bad missing tokens ≡ Ok x
     → AreText tokens → AreText x.1
-word_rest quoted bad missing (Word w ∷ tokens) x h t =
-    subst (λ (y : List ℕ × List Lexeme). AreText y.1) {x = (w, tokens)} (ok_same (w, tokens) x h)
-    (and_parts (is_quoted_text (Word w)) (list_all is_quoted_text tokens) t).1
-word_rest quoted bad missing (Quoted q ∷ tokens) x h t = absurd cc
-word_rest quoted bad missing (Bad ∷ tokens) x h t = absurd cc
-word_rest quoted bad missing [] x h t = absurd cc
+word_rest quoted bad missing (Next place (Word w) tokens) x h t =
+    subst (λ (y : List ℕ × Lexemes). AreText y.1) {x = (w, tokens)} (ok_same (w, tokens) x h)
+    (and_parts (is_quoted_text (Word w)) (list_all is_quoted_text (lexemes tokens)) t).1
+word_rest quoted bad missing (Next place (Quoted q) tokens) x h t = absurd cc
+word_rest quoted bad missing (Next place Bad tokens) x h t = absurd cc
+word_rest quoted bad missing (End place) x h t = absurd cc
 
 below_64 : (v n : ℕ) → below_2_64 v ≡ Some n → is_word64 n ≡ true
 below_64 v n e = by_test (nat_lt v (2 ^ 64)) refl e
@@ -95,49 +96,49 @@ word_number (b ∷ c ∷ w) n e = by_prefix (b == 48 && c == 120) e
     by_prefix false e = decimal_number (b ∷ c ∷ w) n e
 
 -- a number of 64 bits, and text follows it
-record IsRead (x : ℕ × List Lexeme) : Type 0 where
+record IsRead (x : ℕ × Lexemes) : Type 0 where
   number : is_word64 x.0 ≡ true
   rest : AreText x.1
 
 -- a number has 64 bits, whatever tokens it is among
-number_small : (quoted missing : ScriptKind) (tokens : List Lexeme) (x : ℕ × List Lexeme) → number_at quoted missing tokens ≡ Ok x → is_word64 x.0 ≡ true
+number_small : (quoted missing : ScriptKind) (tokens : Lexemes) (x : ℕ × Lexemes) → number_at quoted missing tokens ≡ Ok x → is_word64 x.0 ≡ true
 unfolding number_at
 number_small quoted missing tokens x h =
     let w = made (word_at quoted (UnknownWord Broken) missing tokens) (λ word. or_fails tokens BadNumber (number_of word.0) >>= λ n. Ok (n, word.1)) x h in
     let n = made (or_fails tokens BadNumber (number_of w.0.0)) (λ n. Ok (n, w.0.1)) x w.2 in
-    subst (λ (y : ℕ × List Lexeme). is_word64 y.0 ≡ true) {x = (n.0, w.0.1)} (ok_same (n.0, w.0.1) x n.2)
+    subst (λ (y : ℕ × Lexemes). is_word64 y.0 ≡ true) {x = (n.0, w.0.1)} (ok_same (n.0, w.0.1) x n.2)
     (word_number w.0.0 n.0 (there (number_of w.0.0) n.0 n.1))
   where
     there : (o : Option ℕ) (n : ℕ) → ◌≡◌ {A = Result ℕ (TokenFault ScriptKind)} (or_fails tokens BadNumber o) (Ok n) → o ≡ Some n
     there (Some m) n h = ap Some (ok_same m n h)
     there None n h = absurd cc
 
-number_rest : (quoted missing : ScriptKind) (tokens : List Lexeme) (x : ℕ × List Lexeme) → number_at quoted missing tokens ≡ Ok x
+number_rest : (quoted missing : ScriptKind) (tokens : Lexemes) (x : ℕ × Lexemes) → number_at quoted missing tokens ≡ Ok x
     → AreText tokens → AreText x.1
 unfolding number_at
 number_rest quoted missing tokens x h t =
     let w = made (word_at quoted (UnknownWord Broken) missing tokens) (λ word. or_fails tokens BadNumber (number_of word.0) >>= λ n. Ok (n, word.1)) x h in
     let n = made (or_fails tokens BadNumber (number_of w.0.0)) (λ n. Ok (n, w.0.1)) x w.2 in
-    subst (λ (y : ℕ × List Lexeme). AreText y.1) {x = (n.0, w.0.1)} (ok_same (n.0, w.0.1) x n.2)
+    subst (λ (y : ℕ × Lexemes). AreText y.1) {x = (n.0, w.0.1)} (ok_same (n.0, w.0.1) x n.2)
     (word_rest quoted (UnknownWord Broken) missing tokens w.0 w.1 t)
 
-number_fine : (quoted missing : ScriptKind) (tokens : List Lexeme) (x : ℕ × List Lexeme) → number_at quoted missing tokens ≡ Ok x
+number_fine : (quoted missing : ScriptKind) (tokens : Lexemes) (x : ℕ × Lexemes) → number_at quoted missing tokens ≡ Ok x
     → AreText tokens → IsRead x
 number_fine quoted missing tokens x h t = record { number = number_small quoted missing tokens x h; rest = number_rest quoted missing tokens x h t }
 
-within_fine : (lo hi : ℕ) (quoted missing : ScriptKind) (tokens : List Lexeme) (x : ℕ × List Lexeme) → number_within lo hi quoted missing tokens ≡ Ok x
+within_fine : (lo hi : ℕ) (quoted missing : ScriptKind) (tokens : Lexemes) (x : ℕ × Lexemes) → number_within lo hi quoted missing tokens ≡ Ok x
     → AreText tokens → IsRead x
 unfolding number_within
 within_fine lo hi quoted missing tokens x h t =
     let n = made (number_at quoted missing tokens) (λ n. at_token tokens (within lo hi n.0) >>= λ number. Ok (number, n.1)) x h in
     let m = made (at_token tokens (within lo hi n.0.0)) (λ number. Ok (number, n.0.1)) x n.2 in
-    let p = passed (nat_le lo n.0.0 && nat_le n.0.0 hi) n.0.0 m.0 BadNumber (at_made (length tokens) (within lo hi n.0.0) m.0 m.1) in
+    let p = passed (nat_le lo n.0.0 && nat_le n.0.0 hi) n.0.0 m.0 BadNumber (at_made tokens (within lo hi n.0.0) m.0 m.1) in
     let fine = number_fine quoted missing tokens n.0 n.1 t in
     subst IsRead {x = (m.0, n.0.1)} (ok_same (m.0, n.0.1) x m.2)
     (record { number = subst (λ n. is_word64 n ≡ true) p.1 fine.number; rest = fine.rest })
 
 -- a string is text, and text follows it
-record IsString (x : List ℕ × List Lexeme) : Type 0 where
+record IsString (x : List ℕ × Lexemes) : Type 0 where
   text : is_text x.0 ≡ true
   rest : AreText x.1
 
@@ -151,38 +152,38 @@ quoted_are_text law q h =
     let text = law q (IsUtf8-from_is_utf8 q parts.0) parts.1 in
     both _ _ text.0 text.1
 
-quoted_fine : QuotedAreText → (word bad missing : ScriptKind) (tokens : List Lexeme) (x : List ℕ × List Lexeme) → quoted_at word bad missing tokens ≡ Ok x
+quoted_fine : QuotedAreText → (word bad missing : ScriptKind) (tokens : Lexemes) (x : List ℕ × Lexemes) → quoted_at word bad missing tokens ≡ Ok x
     → AreText tokens → IsString (string_of x.0, x.1)
-quoted_fine law word bad missing (Quoted q ∷ tokens) x h t =
-    let parts = and_parts (is_quoted_text (Quoted q)) (list_all is_quoted_text tokens) t in
-    subst (λ (y : List ℕ × List Lexeme). IsString (string_of y.0, y.1)) {x = (q, tokens)} (ok_same (q, tokens) x h)
+quoted_fine law word bad missing (Next place (Quoted q) tokens) x h t =
+    let parts = and_parts (is_quoted_text (Quoted q)) (list_all is_quoted_text (lexemes tokens)) t in
+    subst (λ (y : List ℕ × Lexemes). IsString (string_of y.0, y.1)) {x = (q, tokens)} (ok_same (q, tokens) x h)
     (record { text = law q parts.0; rest = parts.1 })
-quoted_fine law word bad missing (Word w ∷ tokens) x h t = absurd cc
-quoted_fine law word bad missing (Bad ∷ tokens) x h t = absurd cc
-quoted_fine law word bad missing [] x h t = absurd cc
+quoted_fine law word bad missing (Next place (Word w) tokens) x h t = absurd cc
+quoted_fine law word bad missing (Next place Bad tokens) x h t = absurd cc
+quoted_fine law word bad missing (End place) x h t = absurd cc
 
-string_fine : QuotedAreText → (unquoted missing : ScriptKind) (tokens : List Lexeme) (x : List ℕ × List Lexeme) → string_at unquoted missing tokens ≡ Ok x → AreText tokens → IsString x
+string_fine : QuotedAreText → (unquoted missing : ScriptKind) (tokens : Lexemes) (x : List ℕ × Lexemes) → string_at unquoted missing tokens ≡ Ok x → AreText tokens → IsString x
 unfolding string_at
 string_fine law unquoted missing tokens x h t =
     let q = made (quoted_at unquoted (UnknownWord Broken) missing tokens) (λ quoted. Ok (string_of quoted.0, quoted.1)) x h in
     subst IsString {x = (string_of q.0.0, q.0.1)} (ok_same (string_of q.0.0, q.0.1) x q.2) (quoted_fine law unquoted (UnknownWord Broken) missing tokens q.0 q.1 t)
 
-name_fine : QuotedAreText → (unquoted missing : ScriptKind) (tokens : List Lexeme) (x : List ℕ × List Lexeme) → name_at unquoted missing tokens ≡ Ok x → AreText tokens → IsString x
+name_fine : QuotedAreText → (unquoted missing : ScriptKind) (tokens : Lexemes) (x : List ℕ × Lexemes) → name_at unquoted missing tokens ≡ Ok x → AreText tokens → IsString x
 unfolding name_at
 name_fine law unquoted missing tokens x h t =
     let s = made (string_at unquoted missing tokens) (λ units. at_token tokens (name units.0) >>= λ named. Ok (named, units.1)) x h in
     let n = made (at_token tokens (name s.0.0)) (λ named. Ok (named, s.0.1)) x s.2 in
-    let p = passed (is_name_of s.0.0) s.0.0 n.0 BadName (at_made (length tokens) (name s.0.0) n.0 n.1) in
+    let p = passed (is_name_of s.0.0) s.0.0 n.0 BadName (at_made tokens (name s.0.0) n.0 n.1) in
     let fine = string_fine law unquoted missing tokens s.0 s.1 t in
     subst IsString {x = (n.0, s.0.1)} (ok_same (n.0, s.0.1) x n.2)
     (record { text = subst (λ us. is_text us ≡ true) p.1 fine.text; rest = fine.rest })
 
 -- an argument can be written, and text follows it
-record IsArgument (x : Arg × List Lexeme) : Type 0 where
+record IsArgument (x : Arg × Lexemes) : Type 0 where
   writable : is_writable_arg x.0 ≡ true
   rest : AreText x.1
 
-arg_fine : QuotedAreText → (kind : ParamKind) (tokens : List Lexeme) (x : Arg × List Lexeme) → arg_at kind tokens ≡ Ok x → AreText tokens → IsArgument x
+arg_fine : QuotedAreText → (kind : ParamKind) (tokens : Lexemes) (x : Arg × Lexemes) → arg_at kind tokens ≡ Ok x → AreText tokens → IsArgument x
 unfolding arg_at
 arg_fine law Text tokens x h t =
     let s = made (string_at (WrongArgs Unquoted) (WrongArgs Missing) tokens) (λ text. Ok (arg.Str text.0, text.1)) x h in
@@ -201,26 +202,26 @@ arg_fine law Handle tokens x h t =
     let fine = number_fine (WrongArgs Quoted) (WrongArgs Missing) tokens n.0 n.1 t in
     subst IsArgument {x = (arg.Num n.0.0, n.0.1)} (ok_same (arg.Num n.0.0, n.0.1) x n.2) (record { writable = fine.number; rest = fine.rest })
 
-args_fine : QuotedAreText → (kinds : List ParamKind) (tokens : List Lexeme) (x : List Arg × List Lexeme) → args_at kinds tokens ≡ Ok x → AreText tokens
+args_fine : QuotedAreText → (kinds : List ParamKind) (tokens : Lexemes) (x : List Arg × Lexemes) → args_at kinds tokens ≡ Ok x → AreText tokens
     → list_all is_writable_arg x.0 ≡ true
 unfolding args_at
-args_fine law [] tokens x h t = subst (λ (y : List Arg × List Lexeme). list_all is_writable_arg y.0 ≡ true) (ok_same ([], tokens) x h) refl
+args_fine law [] tokens x h t = subst (λ (y : List Arg × Lexemes). list_all is_writable_arg y.0 ≡ true) (ok_same ([], tokens) x h) refl
 args_fine law (kind ∷ kinds) tokens x h t =
     let a = made (arg_at kind tokens) (λ first. args_at kinds first.1 >>= λ others. Ok (first.0 ∷ others.0, others.1)) x h in
     let o = made (args_at kinds a.0.1) (λ others. Ok (a.0.0 ∷ others.0, others.1)) x a.2 in
     let fine = arg_fine law kind tokens a.0 a.1 t in
-    subst (λ (y : List Arg × List Lexeme). list_all is_writable_arg y.0 ≡ true) (ok_same (a.0.0 ∷ o.0.0, o.0.1) x o.2)
+    subst (λ (y : List Arg × Lexemes). list_all is_writable_arg y.0 ≡ true) (ok_same (a.0.0 ∷ o.0.0, o.0.1) x o.2)
     (both _ _ fine.writable (args_fine law kinds a.0.1 o.0 o.1 fine.rest))
 
-tag_rest : (tokens : List Lexeme) (x : CallTag × List Lexeme) → tag_at tokens ≡ Ok x → AreText tokens → AreText x.1
+tag_rest : (tokens : Lexemes) (x : CallTag × Lexemes) → tag_at tokens ≡ Ok x → AreText tokens → AreText x.1
 unfolding tag_at
-tag_rest (Word w ∷ tokens) x h t =
-    let g = made (or_fails (Word w ∷ tokens) UnknownCall (tag_of_word w)) (λ tag. Ok (tag, tokens)) x h in
-    subst (λ (y : CallTag × List Lexeme). AreText y.1) {x = (g.0, tokens)} (ok_same (g.0, tokens) x g.2)
-    (and_parts (is_quoted_text (Word w)) (list_all is_quoted_text tokens) t).1
-tag_rest (Quoted q ∷ tokens) x h t = absurd cc
-tag_rest (Bad ∷ tokens) x h t = absurd cc
-tag_rest [] x h t = absurd cc
+tag_rest (Next place (Word w) tokens) x h t =
+    let g = made (or_fails (Next place (Word w) tokens) UnknownCall (tag_of_word w)) (λ tag. Ok (tag, tokens)) x h in
+    subst (λ (y : CallTag × Lexemes). AreText y.1) {x = (g.0, tokens)} (ok_same (g.0, tokens) x g.2)
+    (and_parts (is_quoted_text (Word w)) (list_all is_quoted_text (lexemes tokens)) t).1
+tag_rest (Next place (Quoted q) tokens) x h t = absurd cc
+tag_rest (Next place Bad tokens) x h t = absurd cc
+tag_rest (End place) x h t = absurd cc
 
 -- opening lines
 
@@ -228,21 +229,21 @@ tag_rest [] x h t = absurd cc
 abbrev Starts : Result StartLine (TokenFault ScriptKind) → Type 0
 Starts read = (line : StartLine) → read ≡ Ok line → is_writable_start line ≡ true
 
-dir_fine : QuotedAreText → (tokens : List Lexeme) → AreText tokens → Starts (dir tokens)
+dir_fine : QuotedAreText → (tokens : Lexemes) → AreText tokens → Starts (dir tokens)
 unfolding dir
 dir_fine law tokens t line h =
     let x = made (name_at (UnknownWord Unquoted) (UnknownWord Missing) tokens) (λ name. end_at (UnknownWord Extra) (UnknownWord Broken) name.1 >>= λ end. Ok (Dir name.0)) line h in
     let e = made (end_at (UnknownWord Extra) (UnknownWord Broken) x.0.1) (λ end. Ok (Dir x.0.0)) line x.2 in
     subst (λ line. is_writable_start line ≡ true) {x = Dir x.0.0} (ok_same (Dir x.0.0) line e.2) (name_fine law (UnknownWord Unquoted) (UnknownWord Missing) tokens x.0 x.1 t).text
 
-key_fine : QuotedAreText → (tokens : List Lexeme) → AreText tokens → Starts (key tokens)
+key_fine : QuotedAreText → (tokens : Lexemes) → AreText tokens → Starts (key tokens)
 unfolding key
 key_fine law tokens t line h =
     let x = made (name_at (UnknownWord Unquoted) (UnknownWord Missing) tokens) (λ name. end_at (UnknownWord Extra) (UnknownWord Broken) name.1 >>= λ end. Ok (Key name.0)) line h in
     let e = made (end_at (UnknownWord Extra) (UnknownWord Broken) x.0.1) (λ end. Ok (Key x.0.0)) line x.2 in
     subst (λ line. is_writable_start line ≡ true) {x = Key x.0.0} (ok_same (Key x.0.0) line e.2) (name_fine law (UnknownWord Unquoted) (UnknownWord Missing) tokens x.0 x.1 t).text
 
-file_fine : QuotedAreText → (tokens : List Lexeme) → AreText tokens → Starts (file tokens)
+file_fine : QuotedAreText → (tokens : Lexemes) → AreText tokens → Starts (file tokens)
 unfolding file
 file_fine law tokens t line h =
     let x = made (name_at (UnknownWord Unquoted) (UnknownWord Missing) tokens)
@@ -251,7 +252,7 @@ file_fine law tokens t line h =
     let e = made (end_at (UnknownWord Extra) (UnknownWord Broken) a.0.1) (λ end. Ok (File x.0.0 a.0.0)) line a.2 in
     subst (λ line. is_writable_start line ≡ true) {x = File x.0.0 a.0.0} (ok_same (File x.0.0 a.0.0) line e.2) (name_fine law (UnknownWord Unquoted) (UnknownWord Missing) tokens x.0 x.1 t).text
 
-event_fine : QuotedAreText → (tokens : List Lexeme) → AreText tokens → Starts (event tokens)
+event_fine : QuotedAreText → (tokens : Lexemes) → AreText tokens → Starts (event tokens)
 unfolding event
 event_fine law tokens t line h =
     let x = made (name_at (UnknownWord Unquoted) (UnknownWord Missing) tokens)
@@ -263,13 +264,13 @@ event_fine law tokens t line h =
     subst (λ line. is_writable_start line ≡ true) {x = Event x.0.0 k.0.0 i.0.0} (ok_same (Event x.0.0 k.0.0 i.0.0) line e.2)
     (name_fine law (UnknownWord Unquoted) (UnknownWord Missing) tokens x.0 x.1 t).text
 
-start_fine : QuotedAreText → (w : List ℕ) (tokens : List Lexeme) → AreText tokens → Starts (start_line w tokens)
+start_fine : QuotedAreText → (w : List ℕ) (line tokens : Lexemes) → AreText tokens → Starts (start_line w line tokens)
 unfolding start_line
-start_fine law w tokens t =
+start_fine law w line tokens t =
     branches Starts (is_word (codes "dir") w) (dir tokens) _ (dir_fine law tokens t)
     (branches Starts (is_word (codes "file") w) (file tokens) _ (file_fine law tokens t)
     (branches Starts (is_word (codes "key") w) (key tokens) _ (key_fine law tokens t)
-    (branches Starts (is_word (codes "event") w) (event tokens) _ (event_fine law tokens t) (λ line h. absurd cc))))
+    (branches Starts (is_word (codes "event") w) (event tokens) _ (event_fine law tokens t) (λ start h. absurd cc))))
 
 -- statements
 
@@ -277,19 +278,19 @@ start_fine law w tokens t =
 abbrev States : Result Statement (TokenFault ScriptKind) → Type 0
 States read = (statement : Statement) → read ≡ Ok statement → is_writable_statement statement ≡ true
 
-call_fine : QuotedAreText → (tokens : List Lexeme) → AreText tokens → States (call tokens)
+call_fine : QuotedAreText → (line tokens : Lexemes) → AreText tokens → States (call line tokens)
 unfolding call
-call_fine law tokens text statement h =
-    let t = made (tag_at tokens) (λ tag. args_at (shape_of tag.0) tag.1 >>= λ args. end_at (WrongArgs Extra) (UnknownWord Broken) args.1 >>= λ end. at_left (with_first tokens) (fitting tag.0 args.0)) statement h in
-    let a = made (args_at (shape_of t.0.0) t.0.1) (λ args. end_at (WrongArgs Extra) (UnknownWord Broken) args.1 >>= λ end. at_left (with_first tokens) (fitting t.0.0 args.0)) statement t.2 in
-    let e = made (end_at (WrongArgs Extra) (UnknownWord Broken) a.0.1) (λ end. at_left (with_first tokens) (fitting t.0.0 a.0.0)) statement a.2 in
-    let f = passed (encodes t.0.0 a.0.0) (Call t.0.0 a.0.0) statement TooBig (at_made (with_first tokens) (fitting t.0.0 a.0.0) statement e.2) in
+call_fine law line tokens text statement h =
+    let t = made (tag_at tokens) (λ tag. args_at (shape_of tag.0) tag.1 >>= λ args. end_at (WrongArgs Extra) (UnknownWord Broken) args.1 >>= λ end. at_token line (fitting tag.0 args.0)) statement h in
+    let a = made (args_at (shape_of t.0.0) t.0.1) (λ args. end_at (WrongArgs Extra) (UnknownWord Broken) args.1 >>= λ end. at_token line (fitting t.0.0 args.0)) statement t.2 in
+    let e = made (end_at (WrongArgs Extra) (UnknownWord Broken) a.0.1) (λ end. at_token line (fitting t.0.0 a.0.0)) statement a.2 in
+    let f = passed (encodes t.0.0 a.0.0) (Call t.0.0 a.0.0) statement TooBig (at_made line (fitting t.0.0 a.0.0) statement e.2) in
     subst (λ statement. is_writable_statement statement ≡ true) f.1 (args_fine law (shape_of t.0.0) t.0.1 a.0 a.1 (tag_rest tokens t.0 t.1 text))
 
-value_fine : (tokens : List Lexeme) (x : ℕ × List Lexeme) → value_at tokens ≡ Ok x → is_word64 x.0 ≡ true
+value_fine : (tokens : Lexemes) (x : ℕ × Lexemes) → value_at tokens ≡ Ok x → is_word64 x.0 ≡ true
 value_fine tokens x h = number_small BadNumber (WrongArgs Missing) tokens x h
 
-store_fine : (tokens : List Lexeme) → States (store tokens)
+store_fine : (tokens : Lexemes) → States (store tokens)
 unfolding store
 store_fine tokens statement h =
     let w = made (target_word_at tokens) (λ word. value_at word.1 >>= λ value. end_at (WrongArgs Extra) (UnknownWord Broken) value.1 >>= λ end. Ok (Store word.0.0 word.0.1 value.0)) statement h in
@@ -298,7 +299,7 @@ store_fine tokens statement h =
     subst (λ statement. is_writable_statement statement ≡ true) {x = Store w.0.0.0 w.0.0.1 v.0.0} (ok_same (Store w.0.0.0 w.0.0.1 v.0.0) statement e.2)
     (value_fine w.0.1 v.0 v.1)
 
-exchange_fine : (tokens : List Lexeme) → States (exchange tokens)
+exchange_fine : (tokens : Lexemes) → States (exchange tokens)
 unfolding exchange
 exchange_fine tokens statement h =
     let w = made (target_word_at tokens) (λ word. value_at word.1 >>= λ from. value_at from.1 >>= λ to. end_at (WrongArgs Extra) (UnknownWord Broken) to.1 >>= λ end. Ok (Exchange word.0.0 word.0.1 from.0 to.0)) statement h in
@@ -309,14 +310,14 @@ exchange_fine tokens statement h =
     (ok_same (Exchange w.0.0.0 w.0.0.1 f.0.0 t.0.0) statement e.2)
     (both _ _ (value_fine w.0.1 f.0 f.1) (value_fine f.0.1 t.0 t.1))
 
-load_fine : (tokens : List Lexeme) → States (load tokens)
+load_fine : (tokens : Lexemes) → States (load tokens)
 unfolding load
 load_fine tokens statement h =
     let w = made (target_word_at tokens) (λ word. end_at (WrongArgs Extra) (UnknownWord Broken) word.1 >>= λ end. Ok (Load word.0.0 word.0.1)) statement h in
     let e = made (end_at (WrongArgs Extra) (UnknownWord Broken) w.0.1) (λ end. Ok (Load w.0.0.0 w.0.0.1)) statement w.2 in
     subst (λ statement. is_writable_statement statement ≡ true) {x = Load w.0.0.0 w.0.0.1} (ok_same (Load w.0.0.0 w.0.0.1) statement e.2) refl
 
-wait_fine : (tokens : List Lexeme) → States (wait tokens)
+wait_fine : (tokens : Lexemes) → States (wait tokens)
 unfolding wait
 wait_fine tokens statement h =
     let w = made (target_word_at tokens)
@@ -329,10 +330,10 @@ wait_fine tokens statement h =
     subst (λ statement. is_writable_statement statement ≡ true) {x = Wait w.0.0.0 w.0.0.1 v.0.0 m.0} (ok_same (Wait w.0.0.0 w.0.0.1 v.0.0 m.0) statement m.2)
     (value_fine w.0.1 v.0 v.1)
 
-statement_fine : QuotedAreText → (w : List ℕ) (tokens : List Lexeme) → AreText tokens → States (statement_line w tokens)
+statement_fine : QuotedAreText → (w : List ℕ) (line tokens : Lexemes) → AreText tokens → States (statement_line w line tokens)
 unfolding statement_line
-statement_fine law w tokens text =
-    branches States (is_word (codes "call") w) (call tokens) _ (call_fine law tokens text)
+statement_fine law w line tokens text =
+    branches States (is_word (codes "call") w) (call line tokens) _ (call_fine law line tokens text)
     (branches States (is_word (codes "store") w) (store tokens) _ (store_fine tokens)
     (branches States (is_word (codes "exchange") w) (exchange tokens) _ (exchange_fine tokens)
     (branches States (is_word (codes "load") w) (load tokens) _ (load_fine tokens)
@@ -362,22 +363,22 @@ start_more sofar line f w =
     (λ new h. absurd cc)
 
 -- the name of a target that is read is a short name
-new_name_short : (targets : List TargetScript) (tokens : List Lexeme) (x : List ℕ × List Lexeme) → new_name_at targets tokens ≡ Ok x → is_short_name x.0 ≡ true
+new_name_short : (targets : List TargetScript) (tokens : Lexemes) (x : List ℕ × Lexemes) → new_name_at targets tokens ≡ Ok x → is_short_name x.0 ≡ true
 unfolding new_name_at
-new_name_short targets (Word w ∷ tokens) x h =
-    let n = made (at_token (Word w ∷ tokens) (new_name targets w)) (λ name. Ok (name, tokens)) x h in
-    let t = by_tests (is_short_name w) (list_any (is_target_named w) targets) w n.0 (at_made (length (Word w ∷ tokens)) (new_name targets w) n.0 n.1) in
-    subst (λ (y : List ℕ × List Lexeme). is_short_name y.0 ≡ true) (ok_same (n.0, tokens) x n.2) (subst (λ name. is_short_name name ≡ true) t.1 t.0)
+new_name_short targets (Next place (Word w) tokens) x h =
+    let n = made (at_token (Next place (Word w) tokens) (new_name targets w)) (λ name. Ok (name, tokens)) x h in
+    let t = by_tests (is_short_name w) (list_any (is_target_named w) targets) w n.0 (at_made (Next place (Word w) tokens) (new_name targets w) n.0 n.1) in
+    subst (λ (y : List ℕ × Lexemes). is_short_name y.0 ≡ true) (ok_same (n.0, tokens) x n.2) (subst (λ name. is_short_name name ≡ true) t.1 t.0)
   where
     by_tests : (a b : Bool) (w name : List ℕ) → cond a (cond b (Err SameName) (Ok w)) (Err (UnknownWord Unknown)) ≡ Ok name → (a ≡ true) × (w ≡ name)
     by_tests true false w name h = (refl, ok_same w name h)
     by_tests true true w name h = absurd cc
     by_tests false b w name h = absurd cc
-new_name_short targets (Quoted q ∷ tokens) x h = absurd cc
-new_name_short targets (Bad ∷ tokens) x h = absurd cc
-new_name_short targets [] x h = absurd cc
+new_name_short targets (Next place (Quoted q) tokens) x h = absurd cc
+new_name_short targets (Next place Bad tokens) x h = absurd cc
+new_name_short targets (End place) x h = absurd cc
 
-heading_writable : (policies : List Policy) (targets : List TargetScript) (tokens : List Lexeme) (x : TargetScript) → heading policies targets tokens ≡ Ok x → is_writable_target x ≡ true
+heading_writable : (policies : List Policy) (targets : List TargetScript) (tokens : Lexemes) (x : TargetScript) → heading policies targets tokens ≡ Ok x → is_writable_target x ≡ true
 unfolding heading
 heading_writable policies targets tokens x h =
     let n = made (new_name_at targets tokens)
@@ -392,11 +393,11 @@ heading_writable policies targets tokens x h =
     subst (λ target. is_writable_target target ≡ true) {x = record { name = n.0.0; policy = p.0.0; channels = c.0.0; threads = [] }}
     (ok_same (record { name = n.0.0; policy = p.0.0; channels = c.0.0; threads = [] }) x e.2) (both _ _ (new_name_short targets tokens n.0 n.1) refl)
 
-target_more : (policies : List Policy) (sofar : SoFar) (tokens : List Lexeme) → IsWritable sofar → Makes (add_target policies sofar tokens)
+target_more : (policies : List Policy) (sofar : SoFar) (line tokens : Lexemes) → IsWritable sofar → Makes (add_target policies sofar line tokens)
 unfolding add_target
-target_more policies sofar tokens f new h =
-    let x = made (heading policies sofar.targets tokens) (λ target. at_left (with_first tokens) (with_target sofar target)) new h in
-    let t = passed (nat_lt (length sofar.targets) 8) (record sofar { targets = sofar.targets ++ x.0 ∷ [] }) new (TooMany Targets) (at_made (with_first tokens) (with_target sofar x.0) new x.2) in
+target_more policies sofar line tokens f new h =
+    let x = made (heading policies sofar.targets tokens) (λ target. at_token line (with_target sofar target)) new h in
+    let t = passed (nat_lt (length sofar.targets) 8) (record sofar { targets = sofar.targets ++ x.0 ∷ [] }) new (TooMany Targets) (at_made line (with_target sofar x.0) new x.2) in
     subst IsWritable t.1 (record { starts = f.starts; targets = all_more is_writable_target sofar.targets x.0 f.targets (heading_writable policies sofar.targets tokens x.0 x.1) })
 
 thread_step : (x y : TargetScript) → is_writable_target x ≡ true → one_thread_more x ≡ Ok y → is_writable_target y ≡ true
@@ -405,20 +406,20 @@ thread_step x y h e =
     let parts = and_parts (is_short_name x.name) (list_all is_writable_thread x.threads) h in
     subst (λ y. is_writable_target y ≡ true) t.1 (both _ _ parts.0 (all_more is_writable_thread x.threads [] parts.1 refl))
 
-thread_more : (sofar : SoFar) (tokens : List Lexeme) → IsWritable sofar → Makes (add_thread sofar tokens)
+thread_more : (sofar : SoFar) (line tokens : Lexemes) → IsWritable sofar → Makes (add_thread sofar line tokens)
 unfolding add_thread
-thread_more sofar tokens f = branches Makes (is_opening sofar) (misplaced tokens) _ (λ new h. absurd cc) told
+thread_more sofar line tokens f = branches Makes (is_opening sofar) (misplaced line) _ (λ new h. absurd cc) told
   where
-    told : Makes (end_at (UnknownWord Extra) (UnknownWord Broken) tokens >>= λ end. at_left (with_first tokens) (with_thread sofar))
+    told : Makes (end_at (UnknownWord Extra) (UnknownWord Broken) tokens >>= λ end. at_token line (with_thread sofar))
     told new h =
-        let e = made (end_at (UnknownWord Extra) (UnknownWord Broken) tokens) (λ end. at_left (with_first tokens) (with_thread sofar)) new h in
-        let m = made (change_last one_thread_more sofar.targets) (λ targets. Ok (record sofar { targets = targets })) new (at_made (with_first tokens) (with_thread sofar) new e.2) in
+        let e = made (end_at (UnknownWord Extra) (UnknownWord Broken) tokens) (λ end. at_token line (with_thread sofar)) new h in
+        let m = made (change_last one_thread_more sofar.targets) (λ targets. Ok (record sofar { targets = targets })) new (at_made line (with_thread sofar) new e.2) in
         subst IsWritable (ok_same (record sofar { targets = m.0 }) new m.2)
         (record { starts = f.starts; targets = changed_all is_writable_target one_thread_more sofar.targets m.0 thread_step f.targets m.1 })
 
-patience_more : (sofar : SoFar) (tokens : List Lexeme) → IsWritable sofar → Makes (set_patience sofar tokens)
+patience_more : (sofar : SoFar) (line tokens : Lexemes) → IsWritable sofar → Makes (set_patience sofar line tokens)
 unfolding set_patience
-patience_more sofar tokens f = by_patience sofar.patience
+patience_more sofar line tokens f = by_patience sofar.patience
   where
     told : Makes (patience tokens >>= λ n. Ok (with_patience sofar n))
     told new h =
@@ -426,8 +427,8 @@ patience_more sofar tokens f = by_patience sofar.patience
         subst IsWritable (ok_same (with_patience sofar n.0) new n.2) (record { starts = f.starts; targets = f.targets })
 
     by_patience : (old : Option ℕ) → Makes (elim old [
-      | None ↦ cond (is_opening sofar) (patience tokens >>= λ n. Ok (with_patience sofar n)) (misplaced tokens)
-      | Some n ↦ fails_left (with_first tokens) (UnknownWord Repeated)
+      | None ↦ cond (is_opening sofar) (patience tokens >>= λ n. Ok (with_patience sofar n)) (misplaced line)
+      | Some n ↦ fails line (UnknownWord Repeated)
     ])
     by_patience None = branches Makes (is_opening sofar) _ _ told (λ new h. absurd cc)
     by_patience (Some n) = λ new h. absurd cc
@@ -445,37 +446,40 @@ statement_step statement x y s h e =
         let t = passed (nat_lt (length before) 4096) (before ++ statement ∷ []) after (TooMany Statements) e in
         subst (λ after. is_writable_thread after ≡ true) t.1 (all_more is_writable_statement before statement h s)
 
-statement_more : (line : ℕ) (sofar : SoFar) (statement : Statement) → IsWritable sofar → is_writable_statement statement ≡ true → Gains (with_statement sofar line statement)
-statement_more line sofar statement f s new h =
-    let named = sofar.named ++ named_by line statement in
+statement_more : (at : StatementAt) (sofar : SoFar) (statement : Statement) → IsWritable sofar → is_writable_statement statement ≡ true → Gains (with_statement sofar at statement)
+statement_more at sofar statement f s new h =
+    let named = sofar.named ++ named_by at statement in
     let m = made (change_last (in_last_thread statement) sofar.targets) (λ targets. Ok (record sofar { targets = targets; named = named })) new h in
     subst IsWritable (ok_same (record sofar { targets = m.0; named = named }) new m.2) (record {
       starts = f.starts;
       targets = changed_all is_writable_target (in_last_thread statement) sofar.targets m.0 (λ x y h e. statement_step statement x y s h e) f.targets m.1;
     })
 
-plain_more : QuotedAreText → (line : ℕ) (w : List ℕ) (sofar : SoFar) (tokens : List Lexeme) → IsWritable sofar → AreText tokens → Makes (plain_line w sofar line tokens)
+plain_more : QuotedAreText → (number : ℕ) (w : List ℕ) (sofar : SoFar) (line tokens : Lexemes) → IsWritable sofar → AreText tokens
+    → Makes (plain_line w sofar number line tokens)
 unfolding plain_line
-plain_more law line w sofar tokens f t =
+plain_more law number w sofar line tokens f t =
     branches Makes (is_in_thread sofar) _ _
-    (λ new h. let s = made (statement_line w tokens) (λ statement. at_left (with_first tokens) (with_statement sofar line statement)) new h in
-    statement_more line sofar s.0 f (statement_fine law w tokens t s.0 s.1) new (at_made (with_first tokens) (with_statement sofar line s.0) new s.2))
-    (branches Makes (is_opening sofar) _ (not_here w tokens)
-    (λ new h. let s = made (start_line w tokens) (λ start. at_start tokens (with_start sofar start)) new h in
-    start_more sofar s.0 f (start_fine law w tokens t s.0 s.1) new (start_made tokens (with_start sofar s.0) new s.2))
+    (λ new h. let at = statement_at number tokens in
+    let s = made (statement_line w line tokens) (λ statement. at_token line (with_statement sofar at statement)) new h in
+    statement_more at sofar s.0 f (statement_fine law w line tokens t s.0 s.1) new (at_made line (with_statement sofar at s.0) new s.2))
+    (branches Makes (is_opening sofar) _ (not_here w line)
+    (λ new h. let s = made (start_line w line tokens) (λ start. at_start line tokens (with_start sofar start)) new h in
+    start_more sofar s.0 f (start_fine law w line tokens t s.0 s.1) new (start_made line tokens (with_start sofar s.0) new s.2))
     (λ new h. absurd cc))
 
-line_more : QuotedAreText → (policies : List Policy) (sofar : SoFar) (line : ℕ) (tokens : List Lexeme) → IsWritable sofar → AreText tokens
+line_more : QuotedAreText → (policies : List Policy) (sofar : SoFar) (line : ℕ) (tokens : Lexemes) → IsWritable sofar → AreText tokens
     → Makes (line_of policies sofar line tokens)
 unfolding line_of
-line_more law policies sofar line (Word w ∷ tokens) f t =
-    branches Makes (is_word (codes "patience") w) _ _ (patience_more sofar tokens f)
-    (branches Makes (is_word (codes "target") w) _ _ (target_more policies sofar tokens f)
-    (branches Makes (is_word (codes "thread") w) _ _ (thread_more sofar tokens f)
-    (plain_more law line w sofar tokens f (and_parts (is_quoted_text (Word w)) (list_all is_quoted_text tokens) t).1)))
-line_more law policies sofar line (Quoted q ∷ tokens) f t = λ new h. absurd cc
-line_more law policies sofar line (Bad ∷ tokens) f t = λ new h. absurd cc
-line_more law policies sofar line [] f t = λ new h. absurd cc
+line_more law policies sofar number (Next place (Word w) tokens) f t =
+    let line = Next place (Word w) tokens in
+    branches Makes (is_word (codes "patience") w) _ _ (patience_more sofar line tokens f)
+    (branches Makes (is_word (codes "target") w) _ _ (target_more policies sofar line tokens f)
+    (branches Makes (is_word (codes "thread") w) _ _ (thread_more sofar line tokens f)
+    (plain_more law number w sofar line tokens f (and_parts (is_quoted_text (Word w)) (list_all is_quoted_text (lexemes tokens)) t).1)))
+line_more law policies sofar line (Next place (Quoted q) tokens) f t = λ new h. absurd cc
+line_more law policies sofar line (Next place Bad tokens) f t = λ new h. absurd cc
+line_more law policies sofar line (End place) f t = λ new h. absurd cc
 
 -- texts
 

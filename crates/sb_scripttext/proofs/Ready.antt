@@ -23,20 +23,21 @@ use Rattle.sb_scripttext.proofs.Opened.{opens_with}
 use Rattle.sb_scripttext.proofs.Sound.{at_made, both, made, ok_same, passed, branches, in_range, none_absent, patience_sound, start_sound, statement_sound}
 use Rattle.sb_scripttext.specs.Arguments.{most_32}
 use Rattle.sb_scripttext.specs.StartFaults.{start_fault}
-use Rattle.sb_scripttext.specs.SoFar.{SoFar, nothing, change_last, is_opening, is_in_thread, with_patience, with_start, with_target, one_thread_more, with_thread, one_statement_more, in_last_thread, named_by, with_statement}
+use Rattle.sb_scripttext.specs.SoFar.{SoFar, nothing, change_last, is_opening, is_in_thread, with_patience, with_start, with_target, one_thread_more, with_thread, one_statement_more, in_last_thread, named_by, statement_at, with_statement}
 use Rattle.sb_scripttext.specs.Lines.{is_target_named, new_name, new_name_at, policy_number, policy_at, heading, patience, set_patience, add_target, add_thread, at_start, misplaced, not_here, start_line, statement_line, plain_line, line_of}
 use Rattle.sb_scripttext.specs.Openings.{can_place}
 use Rattle.sb_scripttext.specs.ScriptTexts.{Absence, ScriptFault, script_version, add_line, grammar, absence, absence_fault, first_absence, patience_of, script_of, finished, reading}
 use Rattle.sb_text.specs.Readings.{on_line, read_lines, read_by, where_utf8, read_text}
-use Rattle.sb_text.specs.Spots.{by_tokens, fails_left}
+use Rattle.sb_text.specs.Columns.{fails}
 use Rattle.sb_scripttext.specs.Steps.{number_within}
-use Rattle.sb_text.specs.Steps.{◌>>=◌, at_left, at_token, or_fails, with_first, end_at}
+use Rattle.sb_text.specs.Steps.{◌>>=◌, at_token, or_fails, end_at}
 use Rattle.sb_scripttext.specs.declared.drafts.Named.{Named}
+use Rattle.sb_scripttext.specs.declared.drafts.StatementAt.{StatementAt}
 use Rattle.sb_scripttext.specs.declared.faults.ScriptKind.{ScriptKind}
 use Rattle.sb_scripttext.specs.declared.faults.StartFault.{StartFault}
 use Rattle.sb_scripttext.specs.declared.faults.ScriptKind.TheVariants.{NotUtf8, UnknownWord, BadNumber, SameName, NoSuchPolicy, TooMany, BadStart}
 use Rattle.sb_text.specs.Lines.{NumberedLine, lines_of}
-use Rattle.sb_text.specs.Tokens.{Lexeme, Word, Quoted, Bad, tokens_of}
+use Rattle.sb_text.specs.Tokens.{Lexemes, Next, End, Word, Quoted, Bad, by_tokens, tokens_of}
 use Rattle.sb_text.specs.Utf8.{Place, not_utf8_place}
 use Rattle.sb_scripttext.specs.declared.faults.ScriptLimit.TheVariants.{Openings, Targets, Threads, Statements}
 use Rattle.sb_text.specs.declared.refusals.TokenFault.{TokenFault}
@@ -73,12 +74,12 @@ none_here (Some fault) line others h k = absurd cc
 absent_front : (targets : List TargetScript) (xs ys : List Named) → first_absence targets (xs ++ ys) ≡ None → first_absence targets xs ≡ None
 absent_front targets [] ys h = refl
 absent_front targets (x ∷ xs) ys h =
-    let parts = none_absent (absence targets x) x.line (first_absence targets (xs ++ ys)) h in
-    none_here (absence targets x) x.line (first_absence targets xs) parts.0 (absent_front targets xs ys parts.1)
+    let parts = none_absent (absence targets x) x.at.line (first_absence targets (xs ++ ys)) h in
+    none_here (absence targets x) x.at.line (first_absence targets xs) parts.0 (absent_front targets xs ys parts.1)
 
 absent_rest : (targets : List TargetScript) (xs ys : List Named) → first_absence targets (xs ++ ys) ≡ None → first_absence targets ys ≡ None
 absent_rest targets [] ys h = h
-absent_rest targets (x ∷ xs) ys h = absent_rest targets xs ys (none_absent (absence targets x) x.line (first_absence targets (xs ++ ys)) h).1
+absent_rest targets (x ∷ xs) ys h = absent_rest targets xs ys (none_absent (absence targets x) x.at.line (first_absence targets (xs ++ ys)) h).1
 
 names_symm : (a b : List ℕ) → pointwise nat_eq a b ≡ pointwise nat_eq b a
 names_symm = (lists_per (partial_equiv_from_equiv nat_eq_equiv)).symm
@@ -184,9 +185,9 @@ changed_fine count step xs ys old new k j t f e = record {
 }
 
 -- an opening line that was placed
-pub start_made : {A : Type 0} (tokens : List Lexeme) (read : Result A ScriptKind) (x : A) → at_start tokens read ≡ Ok x → read ≡ Ok x
-start_made tokens (Ok y) x h = ap Ok (ok_same y x h)
-start_made tokens (Err kind) x h = absurd cc
+pub start_made : {A : Type 0} (line tokens : Lexemes) (read : Result A ScriptKind) (x : A) → at_start line tokens read ≡ Ok x → read ≡ Ok x
+start_made line tokens (Ok y) x h = ap Ok (ok_same y x h)
+start_made line tokens (Err kind) x h = absurd cc
 
 -- the patience, the opening lines and the targets so far
 fine_start : (count : ℕ) (sofar new : SoFar) (line : StartLine) → IsFine count sofar → is_start line ≡ true → with_start sofar line ≡ Ok new → IsFine count new
@@ -214,45 +215,45 @@ record IsHeading (count : ℕ) (targets : List TargetScript) (heading : TargetSc
   channels : (nat_le 1 heading.channels && nat_le heading.channels 8) ≡ true
   none : heading.threads ≡ []
 
-new_name_read : (targets : List TargetScript) (tokens : List Lexeme) (x : List ℕ × List Lexeme) → new_name_at targets tokens ≡ Ok x
+new_name_read : (targets : List TargetScript) (tokens : Lexemes) (x : List ℕ × Lexemes) → new_name_at targets tokens ≡ Ok x
     → list_any (is_target_named x.0) targets ≡ false
 unfolding new_name_at
-new_name_read targets (Word w ∷ tokens) x h =
-    let n = made (at_token (Word w ∷ tokens) (new_name targets w)) (λ name. Ok (name, tokens)) x h in
-    let t = by_tests (is_short_name w) (list_any (is_target_named w) targets) w n.0 (at_made (length (Word w ∷ tokens)) (new_name targets w) n.0 n.1) in
-    subst (λ (y : List ℕ × List Lexeme). list_any (is_target_named y.0) targets ≡ false) (ok_same (n.0, tokens) x n.2)
+new_name_read targets (Next place (Word w) tokens) x h =
+    let n = made (at_token (Next place (Word w) tokens) (new_name targets w)) (λ name. Ok (name, tokens)) x h in
+    let t = by_tests (is_short_name w) (list_any (is_target_named w) targets) w n.0 (at_made (Next place (Word w) tokens) (new_name targets w) n.0 n.1) in
+    subst (λ (y : List ℕ × Lexemes). list_any (is_target_named y.0) targets ≡ false) (ok_same (n.0, tokens) x n.2)
     (subst (λ name. list_any (is_target_named name) targets ≡ false) t.1 t.0)
   where
     by_tests : (a b : Bool) (w name : List ℕ) → cond a (cond b (Err SameName) (Ok w)) (Err (UnknownWord Unknown)) ≡ Ok name → (b ≡ false) × (w ≡ name)
     by_tests true false w name h = (refl, ok_same w name h)
     by_tests true true w name h = absurd cc
     by_tests false b w name h = absurd cc
-new_name_read targets (Quoted q ∷ tokens) x h = absurd cc
-new_name_read targets (Bad ∷ tokens) x h = absurd cc
-new_name_read targets [] x h = absurd cc
+new_name_read targets (Next place (Quoted q) tokens) x h = absurd cc
+new_name_read targets (Next place Bad tokens) x h = absurd cc
+new_name_read targets (End place) x h = absurd cc
 
 position_below : {A : Type 0} (p : A → Bool) (xs : List A) (n : ℕ) → position p xs ≡ Some n → nat_lt n (length xs) ≡ true
 position_below p xs n h = grind (arith, nat_tests, h)
 
-policy_read : (policies : List Policy) (tokens : List Lexeme) (x : ℕ × List Lexeme) → policy_at policies tokens ≡ Ok x → nat_lt x.0 (length policies) ≡ true
+policy_read : (policies : List Policy) (tokens : Lexemes) (x : ℕ × Lexemes) → policy_at policies tokens ≡ Ok x → nat_lt x.0 (length policies) ≡ true
 unfolding policy_at
-policy_read policies (Word w ∷ tokens) x h = by_place (position (is_named w) policies) refl
-    (made (or_fails (Word w ∷ tokens) NoSuchPolicy (position (is_named w) policies)) (λ place. at_token (Word w ∷ tokens) (policy_number place) >>= λ policy. Ok (policy, tokens)) x h)
+policy_read policies (Next here (Word w) tokens) x h = by_place (position (is_named w) policies) refl
+    (made (or_fails (Next here (Word w) tokens) NoSuchPolicy (position (is_named w) policies)) (λ place. at_token (Next here (Word w) tokens) (policy_number place) >>= λ policy. Ok (policy, tokens)) x h)
   where
     by_place : (place : Option ℕ) → position (is_named w) policies ≡ place
-        → (n : ℕ) × (or_fails (Word w ∷ tokens) NoSuchPolicy place ≡ Ok n) × ((at_token (Word w ∷ tokens) (policy_number n) >>= λ policy. Ok (policy, tokens)) ≡ Ok x) → nat_lt x.0 (length policies) ≡ true
+        → (n : ℕ) × (or_fails (Next here (Word w) tokens) NoSuchPolicy place ≡ Ok n) × ((at_token (Next here (Word w) tokens) (policy_number n) >>= λ policy. Ok (policy, tokens)) ≡ Ok x) → nat_lt x.0 (length policies) ≡ true
     by_place (Some n) e m =
-        let p = made (at_token (Word w ∷ tokens) (policy_number m.0)) (λ policy. Ok (policy, tokens)) x m.2 in
-        let t = passed (nat_le m.0 most_32) m.0 p.0 NoSuchPolicy (at_made (length (Word w ∷ tokens)) (policy_number m.0) p.0 p.1) in
-        subst (λ (y : ℕ × List Lexeme). nat_lt y.0 (length policies) ≡ true) (ok_same (p.0, tokens) x p.2)
+        let p = made (at_token (Next here (Word w) tokens) (policy_number m.0)) (λ policy. Ok (policy, tokens)) x m.2 in
+        let t = passed (nat_le m.0 most_32) m.0 p.0 NoSuchPolicy (at_made (Next here (Word w) tokens) (policy_number m.0) p.0 p.1) in
+        subst (λ (y : ℕ × Lexemes). nat_lt y.0 (length policies) ≡ true) (ok_same (p.0, tokens) x p.2)
         (subst (λ i. nat_lt i (length policies) ≡ true) (ok_same n m.0 m.1 ∙ t.1) (position_below (is_named w) policies n e))
     by_place None e m =
-        let h : ◌≡◌ {A = Result ℕ (TokenFault ScriptKind)} (or_fails (Word w ∷ tokens) NoSuchPolicy None) (Ok m.0) = m.1 in absurd cc
-policy_read policies (Quoted q ∷ tokens) x h = absurd cc
-policy_read policies (Bad ∷ tokens) x h = absurd cc
-policy_read policies [] x h = absurd cc
+        let h : ◌≡◌ {A = Result ℕ (TokenFault ScriptKind)} (or_fails (Next here (Word w) tokens) NoSuchPolicy None) (Ok m.0) = m.1 in absurd cc
+policy_read policies (Next place (Quoted q) tokens) x h = absurd cc
+policy_read policies (Next place Bad tokens) x h = absurd cc
+policy_read policies (End place) x h = absurd cc
 
-heading_read : (policies : List Policy) (targets : List TargetScript) (tokens : List Lexeme) (x : TargetScript) → heading policies targets tokens ≡ Ok x
+heading_read : (policies : List Policy) (targets : List TargetScript) (tokens : Lexemes) (x : TargetScript) → heading policies targets tokens ≡ Ok x
     → IsHeading (length policies) targets x
 unfolding heading
 heading_read policies targets tokens x h =
@@ -301,11 +302,11 @@ fine_thread count sofar new f e =
           (λ all a. (a, thread_step all)) f.targets m.1;
     })
 
-fine_statement : (count line : ℕ) (sofar new : SoFar) (statement : Statement) → IsFine count sofar
-    → ((all : List TargetScript) → first_absence all (named_by line statement) ≡ None → is_statement all statement ≡ true)
-    → with_statement sofar line statement ≡ Ok new → IsFine count new
-fine_statement count line sofar new statement f s e =
-    let named = sofar.named ++ named_by line statement in
+fine_statement : (count : ℕ) (at : StatementAt) (sofar new : SoFar) (statement : Statement) → IsFine count sofar
+    → ((all : List TargetScript) → first_absence all (named_by at statement) ≡ None → is_statement all statement ≡ true)
+    → with_statement sofar at statement ≡ Ok new → IsFine count new
+fine_statement count at sofar new statement f s e =
+    let named = sofar.named ++ named_by at statement in
     let step = in_last_thread statement in
     let m = made (change_last step sofar.targets) (λ targets. Ok (record sofar { targets = targets; named = named })) new e in
     subst (IsFine count) (ok_same (record sofar { targets = m.0; named = named }) new m.2) (record {
@@ -315,8 +316,8 @@ fine_statement count line sofar new statement f s e =
           (λ x y e. ap (λ (y : TargetScript). y.name) (sym (statement_made statement x y e).2))
           (λ x y e. ap (λ (y : TargetScript). y.policy) (sym (statement_made statement x y e).2))
           (λ all a. (
-            absent_front all sofar.named (named_by line statement) a,
-            λ x y h e. statement_step all statement x y (s all (absent_rest all sofar.named (named_by line statement) a)) h e,
+            absent_front all sofar.named (named_by at statement) a,
+            λ x y h e. statement_step all statement x y (s all (absent_rest all sofar.named (named_by at statement) a)) h e,
           ))
           f.targets m.1;
     })
@@ -325,9 +326,9 @@ fine_statement count line sofar new statement f s e =
 abbrev Makes : ℕ → Result SoFar (TokenFault ScriptKind) → Type 0
 Makes count read = (new : SoFar) → read ≡ Ok new → IsFine count new
 
-patience_fine : (count : ℕ) (sofar : SoFar) (tokens : List Lexeme) → IsFine count sofar → Makes count (set_patience sofar tokens)
+patience_fine : (count : ℕ) (sofar : SoFar) (line tokens : Lexemes) → IsFine count sofar → Makes count (set_patience sofar line tokens)
 unfolding set_patience
-patience_fine count sofar tokens f = by_patience sofar.patience
+patience_fine count sofar line tokens f = by_patience sofar.patience
   where
     told : Makes count (patience tokens >>= λ n. Ok (with_patience sofar n))
     told new h =
@@ -339,45 +340,49 @@ patience_fine count sofar tokens f = by_patience sofar.patience
         })
 
     by_patience : (old : Option ℕ) → Makes count (elim old [
-      | None ↦ cond (is_opening sofar) (patience tokens >>= λ n. Ok (with_patience sofar n)) (misplaced tokens)
-      | Some n ↦ fails_left (with_first tokens) (UnknownWord Repeated)
+      | None ↦ cond (is_opening sofar) (patience tokens >>= λ n. Ok (with_patience sofar n)) (misplaced line)
+      | Some n ↦ fails line (UnknownWord Repeated)
     ])
     by_patience None = branches (Makes count) (is_opening sofar) _ _ told (λ new h. absurd cc)
     by_patience (Some n) = λ new h. absurd cc
 
-target_fine : (policies : List Policy) (sofar : SoFar) (tokens : List Lexeme) → IsFine (length policies) sofar → Makes (length policies) (add_target policies sofar tokens)
+target_fine : (policies : List Policy) (sofar : SoFar) (line tokens : Lexemes) → IsFine (length policies) sofar
+    → Makes (length policies) (add_target policies sofar line tokens)
 unfolding add_target
-target_fine policies sofar tokens f new h =
-    let x = made (heading policies sofar.targets tokens) (λ target. at_left (with_first tokens) (with_target sofar target)) new h in
-    fine_target (length policies) sofar new x.0 f (heading_read policies sofar.targets tokens x.0 x.1) (at_made (with_first tokens) (with_target sofar x.0) new x.2)
+target_fine policies sofar line tokens f new h =
+    let x = made (heading policies sofar.targets tokens) (λ target. at_token line (with_target sofar target)) new h in
+    fine_target (length policies) sofar new x.0 f (heading_read policies sofar.targets tokens x.0 x.1) (at_made line (with_target sofar x.0) new x.2)
 
-thread_fine : (count : ℕ) (sofar : SoFar) (tokens : List Lexeme) → IsFine count sofar → Makes count (add_thread sofar tokens)
+thread_fine : (count : ℕ) (sofar : SoFar) (line tokens : Lexemes) → IsFine count sofar → Makes count (add_thread sofar line tokens)
 unfolding add_thread
-thread_fine count sofar tokens f = branches (Makes count) (is_opening sofar) (misplaced tokens) _ (λ new h. absurd cc)
-    (λ new h. fine_thread count sofar new f (at_made (with_first tokens) (with_thread sofar) new (made (end_at (UnknownWord Extra) (UnknownWord Broken) tokens) (λ end. at_left (with_first tokens) (with_thread sofar)) new h).2))
+thread_fine count sofar line tokens f = branches (Makes count) (is_opening sofar) (misplaced line) _ (λ new h. absurd cc)
+    (λ new h. fine_thread count sofar new f (at_made line (with_thread sofar) new (made (end_at (UnknownWord Extra) (UnknownWord Broken) tokens) (λ end. at_token line (with_thread sofar)) new h).2))
 
-plain_fine : (count line : ℕ) (w : List ℕ) (sofar : SoFar) (tokens : List Lexeme) → IsFine count sofar → Makes count (plain_line w sofar line tokens)
+plain_fine : (count number : ℕ) (w : List ℕ) (sofar : SoFar) (line tokens : Lexemes) → IsFine count sofar
+    → Makes count (plain_line w sofar number line tokens)
 unfolding plain_line
-plain_fine count line w sofar tokens f =
+plain_fine count number w sofar line tokens f =
     branches (Makes count) (is_in_thread sofar) _ _
-    (λ new h. let s = made (statement_line w tokens) (λ statement. at_left (with_first tokens) (with_statement sofar line statement)) new h in
-    fine_statement count line sofar new s.0 f (λ all a. statement_sound w tokens s.0 s.1 all line a) (at_made (with_first tokens) (with_statement sofar line s.0) new s.2))
-    (branches (Makes count) (is_opening sofar) _ (not_here w tokens)
-    (λ new h. let s = made (start_line w tokens) (λ start. at_start tokens (with_start sofar start)) new h in
-    fine_start count sofar new s.0 f (start_sound w tokens s.0 s.1) (start_made tokens (with_start sofar s.0) new s.2))
+    (λ new h. let at = statement_at number tokens in
+    let s = made (statement_line w line tokens) (λ statement. at_token line (with_statement sofar at statement)) new h in
+    fine_statement count at sofar new s.0 f (λ all a. statement_sound w line tokens s.0 s.1 all at a) (at_made line (with_statement sofar at s.0) new s.2))
+    (branches (Makes count) (is_opening sofar) _ (not_here w line)
+    (λ new h. let s = made (start_line w line tokens) (λ start. at_start line tokens (with_start sofar start)) new h in
+    fine_start count sofar new s.0 f (start_sound w line tokens s.0 s.1) (start_made line tokens (with_start sofar s.0) new s.2))
     (λ new h. absurd cc))
 
-line_fine : (policies : List Policy) (sofar : SoFar) (line : ℕ) (tokens : List Lexeme) → IsFine (length policies) sofar
+line_fine : (policies : List Policy) (sofar : SoFar) (line : ℕ) (tokens : Lexemes) → IsFine (length policies) sofar
     → Makes (length policies) (line_of policies sofar line tokens)
 unfolding line_of
-line_fine policies sofar line (Word w ∷ tokens) f =
-    branches (Makes (length policies)) (is_word (codes "patience") w) _ _ (patience_fine (length policies) sofar tokens f)
-    (branches (Makes (length policies)) (is_word (codes "target") w) _ _ (target_fine policies sofar tokens f)
-    (branches (Makes (length policies)) (is_word (codes "thread") w) _ _ (thread_fine (length policies) sofar tokens f)
-    (plain_fine (length policies) line w sofar tokens f)))
-line_fine policies sofar line (Quoted q ∷ tokens) f = λ new h. absurd cc
-line_fine policies sofar line (Bad ∷ tokens) f = λ new h. absurd cc
-line_fine policies sofar line [] f = λ new h. absurd cc
+line_fine policies sofar number (Next place (Word w) tokens) f =
+    let line = Next place (Word w) tokens in
+    branches (Makes (length policies)) (is_word (codes "patience") w) _ _ (patience_fine (length policies) sofar line tokens f)
+    (branches (Makes (length policies)) (is_word (codes "target") w) _ _ (target_fine policies sofar line tokens f)
+    (branches (Makes (length policies)) (is_word (codes "thread") w) _ _ (thread_fine (length policies) sofar line tokens f)
+    (plain_fine (length policies) number w sofar line tokens f)))
+line_fine policies sofar line (Next place (Quoted q) tokens) f = λ new h. absurd cc
+line_fine policies sofar line (Next place Bad tokens) f = λ new h. absurd cc
+line_fine policies sofar line (End place) f = λ new h. absurd cc
 
 pub on_this : {A : Type 0} (line : NumberedLine) (read : Result A (TokenFault ScriptKind)) (x : A) → on_line by_tokens line read ≡ Ok x → read ≡ Ok x
 on_this line (Ok y) x h = ap Ok (ok_same y x h)

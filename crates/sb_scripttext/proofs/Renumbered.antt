@@ -10,22 +10,23 @@ use Rattle.sb_statements.specs.declared.statements.Statement.{Statement}
 use Rattle.sb_statements.specs.declared.statements.Statement.TheVariants.{Call, Store, Exchange, Load, Wait}
 use Rattle.sb_rule.specs.declared.policies.Policy.{Policy}
 use Rattle.sb_scripttext.proofs.Prefixes.{read_by_lines}
-use Rattle.sb_scripttext.specs.SoFar.{SoFar, change_last, is_opening, is_in_thread, with_patience, with_start, with_target, one_thread_more, with_thread, in_last_thread, named_by, with_statement}
+use Rattle.sb_scripttext.specs.SoFar.{SoFar, change_last, is_opening, is_in_thread, with_patience, with_start, with_target, one_thread_more, with_thread, in_last_thread, named_by, statement_at, with_statement}
 use Rattle.sb_scripttext.specs.Laws.{SkippedLinesCountAlone}
 use Rattle.sb_scripttext.specs.Lines.{at_start, heading, misplaced, patience, set_patience, add_target, add_thread, start_line, statement_line, plain_line, line_of}
 use Rattle.sb_scripttext.specs.Openings.{can_place}
 use Rattle.sb_scripttext.specs.ScriptTexts.{Absence, ScriptFault, absence_on, absence_fault, grammar, absence, first_absence, script_of, finished}
 use Rattle.sb_text.specs.MissingTexts.{line_or_empty, or_empty}
-use Rattle.sb_text.specs.Steps.{◌>>=◌, at_left, on_value, end_at, with_first}
+use Rattle.sb_text.specs.Steps.{◌>>=◌, at_token, on_value, end_at}
 use Rattle.sb_scripttext.specs.declared.drafts.Named.{Named}
+use Rattle.sb_scripttext.specs.declared.drafts.StatementAt.{StatementAt}
 use Rattle.sb_scripttext.specs.declared.faults.ScriptKind.{ScriptKind}
 use Rattle.sb_scripttext.specs.declared.faults.ScriptKind.TheVariants.{UnknownWord, TooMany}
 use Rattle.sb_text.specs.LineLaws.{LinesAppend, WrittenLinesAreRead, ended, is_line}
 use Rattle.sb_text.specs.Lines.{raw_lines, lines_from, lines_of, without_cr}
 use Rattle.sb_text.specs.ReadingLaws as laws
 use Rattle.sb_text.specs.Readings.{is_some_line, read_by, renumbered, behind}
-use Rattle.sb_text.specs.Spots.{fails_left}
-use Rattle.sb_text.specs.Tokens.{Lexeme, Word, Quoted, Bad, tokens_of}
+use Rattle.sb_text.specs.Columns.{fails}
+use Rattle.sb_text.specs.Tokens.{Lexemes, Next, End, Word, Quoted, Bad, tokens_of}
 use Rattle.sb_scripttext.specs.declared.faults.ScriptLimit.TheVariants.{Openings, Targets}
 use Rattle.sb_text.specs.declared.refusals.TokenFault.{TokenFault}
 use Rattle.sb_text.specs.declared.refusals.WordFault.TheVariants.{Broken, Extra, Repeated}
@@ -45,27 +46,31 @@ map_append f [] ys = refl
 map_append f (x ∷ xs) ys = ap (λ zs. f x ∷ zs) (map_append f xs ys)
 
 -- a fault that was placed
-placed_moves : {A B K : Type 0} (f : A → B) (left : ℕ) (read : Result A K) → on_value f (at_left left read) ≡ at_left left (on_value f read)
-placed_moves f left (Ok x) = refl
-placed_moves f left (Err kind) = refl
+placed_moves : {A B K : Type 0} (f : A → B) (tokens : Lexemes) (read : Result A K) → on_value f (at_token tokens read) ≡ at_token tokens (on_value f read)
+placed_moves f tokens (Ok x) = refl
+placed_moves f tokens (Err kind) = refl
 
-started_moves : {A B : Type 0} (f : A → B) (tokens : List Lexeme) (read : Result A ScriptKind) → on_value f (at_start tokens read) ≡ at_start tokens (on_value f read)
-started_moves f tokens (Ok x) = refl
-started_moves f tokens (Err kind) = refl
+started_moves : {A B : Type 0} (f : A → B) (line tokens : Lexemes) (read : Result A ScriptKind)
+    → on_value f (at_start line tokens read) ≡ at_start line tokens (on_value f read)
+started_moves f line tokens (Ok x) = refl
+started_moves f line tokens (Err kind) = refl
 
 -- what statements name, on lines with other numbers
+abbrev renumbered_at : (ℕ → ℕ) → StatementAt → StatementAt
+renumbered_at f at = record { line = f at.line; target = at.target; channel = at.channel }
+
 abbrev renumbered_named : (ℕ → ℕ) → Named → Named
-renumbered_named f named = record { line = f named.line; left = named.left; target = named.target; channel = named.channel }
+renumbered_named f named = record { at = renumbered_at f named.at; target = named.target; channel = named.channel }
 
 abbrev renumbered_sofar : (ℕ → ℕ) → SoFar → SoFar
 renumbered_sofar f sofar = record sofar { named = map (renumbered_named f) sofar.named }
 
-names_move : (f : ℕ → ℕ) (line : ℕ) (statement : Statement) → map (renumbered_named f) (named_by line statement) ≡ named_by (f line) statement
-names_move f line (Call tag args) = refl
-names_move f line (Store target word value) = refl
-names_move f line (Exchange target word from to) = refl
-names_move f line (Load target word) = refl
-names_move f line (Wait target word value most) = refl
+names_move : (f : ℕ → ℕ) (at : StatementAt) (statement : Statement) → map (renumbered_named f) (named_by at statement) ≡ named_by (renumbered_at f at) statement
+names_move f at (Call tag args) = refl
+names_move f at (Store target word value) = refl
+names_move f at (Exchange target word from to) = refl
+names_move f at (Load target word) = refl
+names_move f at (Wait target word value most) = refl
 
 start_moves : (f : ℕ → ℕ) (sofar : SoFar) (line : StartLine) → on_value (renumbered_sofar f) (with_start sofar line) ≡ with_start (renumbered_sofar f sofar) line
 start_moves f sofar line =
@@ -79,46 +84,52 @@ target_moves f sofar target =
 thread_moves : (f : ℕ → ℕ) (sofar : SoFar) → on_value (renumbered_sofar f) (with_thread sofar) ≡ with_thread (renumbered_sofar f sofar)
 thread_moves f sofar = then (renumbered_sofar f) (change_last one_thread_more sofar.targets) _ _ (λ targets. refl)
 
-statement_moves : (f : ℕ → ℕ) (sofar : SoFar) (line : ℕ) (statement : Statement)
-    → on_value (renumbered_sofar f) (with_statement sofar line statement) ≡ with_statement (renumbered_sofar f sofar) (f line) statement
-statement_moves f sofar line statement =
+statement_moves : (f : ℕ → ℕ) (sofar : SoFar) (at : StatementAt) (statement : Statement)
+    → on_value (renumbered_sofar f) (with_statement sofar at statement) ≡ with_statement (renumbered_sofar f sofar) (renumbered_at f at) statement
+statement_moves f sofar at statement =
     then (renumbered_sofar f) (change_last (in_last_thread statement) sofar.targets) _ _
     (λ targets. ap (λ (names : List Named). Ok (record sofar { targets = targets; named = names })) names)
   where
-    names : map (renumbered_named f) (sofar.named ++ named_by line statement) ≡ map (renumbered_named f) sofar.named ++ named_by (f line) statement
-    names = map_append (renumbered_named f) sofar.named (named_by line statement) ∙ ap (λ more. map (renumbered_named f) sofar.named ++ more) (names_move f line statement)
+    names : map (renumbered_named f) (sofar.named ++ named_by at statement) ≡ map (renumbered_named f) sofar.named ++ named_by (renumbered_at f at) statement
+    names = map_append (renumbered_named f) sofar.named (named_by at statement) ∙ ap (λ more. map (renumbered_named f) sofar.named ++ more) (names_move f at statement)
 
-patience_moves : (f : ℕ → ℕ) (sofar : SoFar) (tokens : List Lexeme) → on_value (renumbered_sofar f) (set_patience sofar tokens) ≡ set_patience (renumbered_sofar f sofar) tokens
+patience_moves : (f : ℕ → ℕ) (sofar : SoFar) (line tokens : Lexemes)
+    → on_value (renumbered_sofar f) (set_patience sofar line tokens) ≡ set_patience (renumbered_sofar f sofar) line tokens
 unfolding set_patience
-patience_moves f sofar tokens = by_patience sofar.patience
+patience_moves f sofar line tokens = by_patience sofar.patience
   where
     by_patience : (old : Option ℕ) → on_value (renumbered_sofar f) (elim old [
-      | None ↦ cond (is_opening sofar) (patience tokens >>= λ n. Ok (with_patience sofar n)) (misplaced tokens)
-      | Some n ↦ fails_left (with_first tokens) (UnknownWord Repeated)
+      | None ↦ cond (is_opening sofar) (patience tokens >>= λ n. Ok (with_patience sofar n)) (misplaced line)
+      | Some n ↦ fails line (UnknownWord Repeated)
     ]) ≡ elim old [
-      | None ↦ cond (is_opening sofar) (patience tokens >>= λ n. Ok (with_patience (renumbered_sofar f sofar) n)) (misplaced tokens)
-      | Some n ↦ fails_left (with_first tokens) (UnknownWord Repeated)
+      | None ↦ cond (is_opening sofar) (patience tokens >>= λ n. Ok (with_patience (renumbered_sofar f sofar) n)) (misplaced line)
+      | Some n ↦ fails line (UnknownWord Repeated)
     ]
     by_patience None = choice (renumbered_sofar f) (is_opening sofar) _ _ _ _ (then (renumbered_sofar f) (patience tokens) _ _ (λ n. refl)) refl
     by_patience (Some n) = refl
 
 -- a line adds the same, with other numbers
-line_moves : (f : ℕ → ℕ) (policies : List Policy) (sofar : SoFar) (line : ℕ) (tokens : List Lexeme)
+line_moves : (f : ℕ → ℕ) (policies : List Policy) (sofar : SoFar) (line : ℕ) (tokens : Lexemes)
     → on_value (renumbered_sofar f) (line_of policies sofar line tokens) ≡ line_of policies (renumbered_sofar f sofar) (f line) tokens
 unfolding line_of add_target add_thread plain_line
-line_moves f policies sofar line (Word w ∷ tokens) =
-    choice (renumbered_sofar f) (is_word (codes "patience") w) _ _ _ _ (patience_moves f sofar tokens)
-    (choice (renumbered_sofar f) (is_word (codes "target") w) _ _ _ _ (then (renumbered_sofar f) (heading policies sofar.targets tokens) _ _ (λ target. placed_moves (renumbered_sofar f) (with_first tokens) (with_target sofar target) ∙ ap (at_left (with_first tokens)) (target_moves f sofar target)))
+line_moves f policies sofar number (Next place (Word w) tokens) =
+    let line = Next place (Word w) tokens in
+    choice (renumbered_sofar f) (is_word (codes "patience") w) _ _ _ _ (patience_moves f sofar line tokens)
+    (choice (renumbered_sofar f) (is_word (codes "target") w) _ _ _ _ (then (renumbered_sofar f) (heading policies sofar.targets tokens) _ _
+    (λ target. placed_moves (renumbered_sofar f) line (with_target sofar target) ∙ ap (at_token line) (target_moves f sofar target)))
     (choice (renumbered_sofar f) (is_word (codes "thread") w) _ _ _ _
-    (choice (renumbered_sofar f) (is_opening sofar) _ _ _ _ refl (then (renumbered_sofar f) (end_at (UnknownWord Extra) (UnknownWord Broken) tokens) _ _ (λ end. placed_moves (renumbered_sofar f) (with_first tokens) (with_thread sofar) ∙ ap (at_left (with_first tokens)) (thread_moves f sofar))))
+    (choice (renumbered_sofar f) (is_opening sofar) _ _ _ _ refl (then (renumbered_sofar f) (end_at (UnknownWord Extra) (UnknownWord Broken) tokens) _ _
+    (λ end. placed_moves (renumbered_sofar f) line (with_thread sofar) ∙ ap (at_token line) (thread_moves f sofar))))
     (choice (renumbered_sofar f) (is_in_thread sofar) _ _ _ _
-    (then (renumbered_sofar f) (statement_line w tokens) _ _ (λ statement. placed_moves (renumbered_sofar f) (with_first tokens) (with_statement sofar line statement)
-    ∙ ap (at_left (with_first tokens)) (statement_moves f sofar line statement)))
-    (choice (renumbered_sofar f) (is_opening sofar) _ _ _ _ (then (renumbered_sofar f) (start_line w tokens) _ _ (λ start. started_moves (renumbered_sofar f) tokens (with_start sofar start)
-    ∙ ap (at_start tokens) (start_moves f sofar start))) refl))))
-line_moves f policies sofar line [] = refl
-line_moves f policies sofar line (Quoted q ∷ tokens) = refl
-line_moves f policies sofar line (Bad ∷ tokens) = refl
+    (then (renumbered_sofar f) (statement_line w line tokens) _ _
+    (λ statement. placed_moves (renumbered_sofar f) line (with_statement sofar (statement_at number tokens) statement)
+    ∙ ap (at_token line) (statement_moves f sofar (statement_at number tokens) statement)))
+    (choice (renumbered_sofar f) (is_opening sofar) _ _ _ _ (then (renumbered_sofar f) (start_line w line tokens) _ _
+    (λ start. started_moves (renumbered_sofar f) line tokens (with_start sofar start)
+    ∙ ap (at_start line tokens) (start_moves f sofar start))) refl))))
+line_moves f policies sofar number (End place) = refl
+line_moves f policies sofar number (Next place (Quoted q) tokens) = refl
+line_moves f policies sofar number (Next place Bad tokens) = refl
 
 -- what is not there, on a line with another number
 abbrev renumbered_absence : (ℕ → ℕ) → Option Absence → Option Absence
@@ -131,8 +142,8 @@ absence_moves f targets [] = refl
 absence_moves f targets (x ∷ xs) = by_first (absence_moves f targets xs) (absence targets x)
   where
     by_first : first_absence targets (map (renumbered_named f) xs) ≡ renumbered_absence f (first_absence targets xs) → (first : Option (TokenFault ScriptKind))
-        → elim first [ None ↦ first_absence targets (map (renumbered_named f) xs) | Some fault ↦ Some (f x.line, fault) ]
-        ≡ renumbered_absence f (elim first [ None ↦ first_absence targets xs | Some fault ↦ Some (x.line, fault) ])
+        → elim first [ None ↦ first_absence targets (map (renumbered_named f) xs) | Some fault ↦ Some (f x.at.line, fault) ]
+        ≡ renumbered_absence f (elim first [ None ↦ first_absence targets xs | Some fault ↦ Some (x.at.line, fault) ])
     by_first others None = others
     by_first others (Some fault) = refl
 

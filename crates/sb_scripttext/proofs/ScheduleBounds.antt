@@ -15,7 +15,7 @@ use Rattle.sb_scripttext.specs.ScheduleDrafts.{Drafted, step_count, nothing, has
 use Rattle.sb_scripttext.specs.ScheduleLaws.{ActorsAreThere, StepsAreCounted, RoundsAreCounted}
 use Rattle.sb_scripttext.specs.SchedulePrintingLaws.{ActorsMakeSteps}
 use Rattle.sb_scripttext.specs.ScheduleLimits.{most_steps, most_rounds}
-use Rattle.sb_scripttext.specs.ScheduleLines.{within, count_at, step, add_steps, rounds, line_by, line_with, line_of}
+use Rattle.sb_scripttext.specs.ScheduleLines.{any_word_at, within, last_number, count_at, step, last_word, add_steps, line_by, line_of}
 use Rattle.sb_scripttext.specs.ScheduleTexts.{ScheduleFault, schedule_version, add_line, grammar, reading}
 use Rattle.sb_scripttext.specs.declared.schedule_faults.ScheduleKind.{ScheduleKind}
 use Rattle.sb_scripttext.specs.declared.schedule_faults.ScheduleKind.TheVariants.{UnknownWord, UnknownActor, BadNumber, TooMany}
@@ -26,12 +26,12 @@ use Rattle.sb_text.specs.Lines.{NumberedLine, raw_lines, lines_of}
 use Rattle.sb_text.specs.Numbers.{number_of}
 use Rattle.sb_text.specs.Readings.{on_line, read_lines, read_by}
 use Rattle.sb_base.specs.Refusals.{Gives}
-use Rattle.sb_text.specs.Spots.{by_words, fails_left}
-use Rattle.sb_text.specs.Steps.{◌>>=◌, at_left, or_fault, words_end}
+use Rattle.sb_text.specs.Columns.{fails}
+use Rattle.sb_text.specs.Steps.{◌>>=◌, at_token, end_at, or_fails}
 use Rattle.sb_text.specs.declared.refusals.TokenFault.{TokenFault}
-use Rattle.sb_text.specs.declared.refusals.WordFault.TheVariants.{Extra, Misplaced, Unknown}
+use Rattle.sb_text.specs.declared.refusals.WordFault.TheVariants.{Broken, Extra, Misplaced, Unknown}
 use Rattle.sb_base.specs.declared.refusals.Refused.{Refused}
-use Rattle.sb_text.specs.Words.{words_of}
+use Rattle.sb_text.specs.Tokens.{Lexemes, by_words, words_of}
 
 on_this : {A : Type 0} (line : NumberedLine) (read : Result A (TokenFault ScheduleKind)) (x : A) → on_line by_words line read ≡ Ok x → read ≡ Ok x
 on_this line (Ok y) x h = ap Ok (ok_same y x h)
@@ -58,22 +58,21 @@ within_most lo hi word n h = by_number (number_of word) h
         let high = (and_parts (nat_le lo m) (nat_le m hi) t.0).1 in
         subst (λ k. k ≤ hi) t.1 (grind (arith, nat_tests, high))
 
-step_there : (targets : List TargetScript) (words : List (List ℕ)) (s : Actor × ℕ) → step targets words ≡ Ok s → is_step_there targets s ≡ true
-step_there targets [] s h = absurd cc
-step_there targets (word ∷ words) s h =
-    let named = at_left (length (word ∷ words)) (or_fault UnknownActor (actor_of targets word)) in
-    let a = made named (λ actor. count_at words >>= λ n. Ok (actor, n)) s h in
-    let n = made (count_at words) (λ n. Ok (a.0, n)) s a.2 in
+step_there : (targets : List TargetScript) (words : Lexemes) (s : Actor × ℕ) → step targets words ≡ Ok s → is_step_there targets s ≡ true
+step_there targets words s h =
+    let w = made (any_word_at words) (λ word. or_fails words UnknownActor (actor_of targets word.0) >>= λ actor. count_at word.1 >>= λ n. Ok (actor, n)) s h in
+    let a = made (or_fails words UnknownActor (actor_of targets w.0.0)) (λ actor. count_at w.0.1 >>= λ n. Ok (actor, n)) s w.2 in
+    let n = made (count_at w.0.1) (λ n. Ok (a.0, n)) s a.2 in
     let same : a.0 ≡ s.0 = ap (λ (y : Actor × ℕ). y.0) (ok_same (a.0, n.0) s n.2) in
-    subst (λ x. is_there targets x ≡ true) same
-    (named_there targets word a.0 (was_there (actor_of targets word) a.0 UnknownActor (at_made (length (word ∷ words)) (or_fault UnknownActor (actor_of targets word)) a.0 a.1)))
+    subst (λ x. is_there targets x ≡ true) same (named_there targets w.0.0 a.0 (was_there words UnknownActor (actor_of targets w.0.0) a.0 a.1))
 
-rounds_most : (words : List (List ℕ)) (n : ℕ) → rounds words ≡ Ok n → n ≤ most_rounds
-rounds_most [] n h = absurd cc
-rounds_most (word ∷ words) n h =
-    let m = made (at_left (length (word ∷ words)) (within 0 most_rounds word)) (λ m. words_end (UnknownWord Extra) words >>= λ end. Ok m) n h in
-    let e = made (words_end (UnknownWord Extra) words) (λ end. Ok m.0) n m.2 in
-    subst (λ k. k ≤ most_rounds) (ok_same m.0 n e.2) (within_most 0 most_rounds word m.0 (at_made (length (word ∷ words)) (within 0 most_rounds word) m.0 m.1))
+last_most : (lo hi : ℕ) (words : Lexemes) (n : ℕ) → last_number lo hi words ≡ Ok n → n ≤ hi
+last_most lo hi words n h =
+    let w = made (any_word_at words)
+    (λ word. at_token words (within lo hi word.0) >>= λ m. end_at (UnknownWord Extra) (UnknownWord Broken) word.1 >>= λ end. Ok m) n h in
+    let m = made (at_token words (within lo hi w.0.0)) (λ m. end_at (UnknownWord Extra) (UnknownWord Broken) w.0.1 >>= λ end. Ok m) n w.2 in
+    let e = made (end_at (UnknownWord Extra) (UnknownWord Broken) w.0.1) (λ end. Ok m.0) n m.2 in
+    subst (λ k. k ≤ hi) (ok_same m.0 n e.2) (within_most lo hi w.0.0 m.0 (at_made words (within lo hi w.0.0) m.0 m.1))
 
 -- what was read is within its bounds
 pub record IsBounded (targets : List TargetScript) (draft : Drafted) : Type 0 where
@@ -99,32 +98,36 @@ with_step_bounded targets draft new s b t m h =
       rounds = b.rounds;
     }
 
-line_by_bounded : (targets : List TargetScript) (draft new : Drafted) (first : List ℕ) (words : List (List ℕ)) → IsBounded targets draft
-    → line_by targets draft first words ≡ Ok new → IsBounded targets new
+line_by_bounded : (targets : List TargetScript) (draft new : Drafted) (first : List ℕ) (line words : Lexemes) → IsBounded targets draft
+    → line_by targets draft first line words ≡ Ok new → IsBounded targets new
 unfolding line_by
-line_by_bounded targets draft new first words b h = by_words (is_word (codes "step") first) (is_word (codes "rounds") first) h
+line_by_bounded targets draft new first line words b h = by_words (is_word (codes "step") first) (is_word (codes "rounds") first) h
   where
     by_words : (p q : Bool)
-        → cond p (add_steps targets draft words) (cond q (rounds words >>= λ n. Ok (with_rounds draft n)) (fails_left (length (first ∷ words)) (UnknownWord Unknown))) ≡ Ok new
+        → cond p (add_steps targets draft words)
+        (cond q (last_number 0 most_rounds words >>= λ n. Ok (with_rounds draft n)) (fails line (UnknownWord Unknown))) ≡ Ok new
         → IsBounded targets new
     by_words true q h =
-        let s = made (step targets words) (λ s. at_left 1 (with_step draft s)) new h in
-        with_step_bounded targets draft new s.0 b (step_there targets words s.0 s.1) (step_made targets words s.0 s.1) (at_made 1 (with_step draft s.0) new s.2)
+        let s = made (step targets words) (λ s. at_token (last_word words) (with_step draft s)) new h in
+        with_step_bounded targets draft new s.0 b (step_there targets words s.0 s.1) (step_made targets words s.0 s.1)
+        (at_made (last_word words) (with_step draft s.0) new s.2)
     by_words false true h =
-        let n = made (rounds words) (λ n. Ok (with_rounds draft n)) new h in
+        let n = made (last_number 0 most_rounds words) (λ n. Ok (with_rounds draft n)) new h in
         subst (IsBounded targets) (ok_same (with_rounds draft n.0) new n.2)
-        record { there = b.there; each = b.each; steps = b.steps; rounds = λ m e. let same : n.0 ≡ m = cc in subst (λ k. k ≤ most_rounds) same (rounds_most words n.0 n.1) }
+        record { there = b.there; each = b.each; steps = b.steps; rounds = λ m e. let same : n.0 ≡ m = cc in subst (λ k. k ≤ most_rounds) same (last_most 0 most_rounds words n.0 n.1) }
     by_words false false h = absurd cc
 
-line_bounded : (targets : List TargetScript) (draft new : Drafted) (words : List (List ℕ)) → IsBounded targets draft → line_of targets draft words ≡ Ok new
+line_bounded : (targets : List TargetScript) (draft new : Drafted) (line : Lexemes) → IsBounded targets draft → line_of targets draft line ≡ Ok new
     → IsBounded targets new
 unfolding line_of
-line_bounded targets draft new words b h = by_rounds words (has_rounds draft) h
+line_bounded targets draft new line b h = by_rounds (has_rounds draft) h
   where
-    by_rounds : (words : List (List ℕ)) (told : Bool) → cond told (fails_left (length words) (UnknownWord Misplaced)) (line_with targets draft words) ≡ Ok new → IsBounded targets new
-    by_rounds words true h = absurd cc
-    by_rounds [] false h = absurd cc
-    by_rounds (first ∷ words) false h = line_by_bounded targets draft new first words b h
+    by_rounds : (told : Bool)
+        → cond told (fails line (UnknownWord Misplaced)) (any_word_at line >>= λ first. line_by targets draft first.0 line first.1) ≡ Ok new → IsBounded targets new
+    by_rounds true h = absurd cc
+    by_rounds false h =
+        let w = made (any_word_at line) (λ first. line_by targets draft first.0 line first.1) new h in
+        line_by_bounded targets draft new w.0.0 line w.0.1 b w.2
 
 lines_bounded : (targets : List TargetScript) (version : ℕ) (draft new : Drafted) (lines : List NumberedLine) → IsBounded targets draft
     → read_lines (grammar targets) version draft lines ≡ Ok new → IsBounded targets new

@@ -14,7 +14,7 @@ use Rattle.sb_text.specs.Lines.{raw_lines, lines_of}
 use Rattle.sb_text.specs.ReadingLaws as laws
 use Rattle.sb_text.specs.Readings.{read_by, renumbered, behind}
 use Rattle.sb_text.specs.Steps.{◌>>=◌, on_value}
-use Rattle.sb_text.specs.Words.{words_of}
+use Rattle.sb_text.specs.Tokens.{words_of}
 
 -- a schedule that is not finished lacks its rounds
 finished_last : (lines : ℕ) (steps : List (Actor × ℕ)) (rounds : Option ℕ) (fault : ScheduleFault)

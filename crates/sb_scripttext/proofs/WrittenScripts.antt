@@ -24,14 +24,14 @@ use Rattle.sb_scripttext.proofs.Prefixes.{read_by_lines}
 use Rattle.sb_scripttext.proofs.Ready.{none_here}
 use Rattle.sb_scripttext.proofs.Sound.{both, none_absent}
 use Rattle.sb_text.specs.Lines.{NumberedLine}
-use Rattle.sb_text.specs.TokenLaws.{written_line}
+use Rattle.sb_text.specs.TokenLaws.{placed, written_line}
 use Rattle.sb_text.specs.PlainLines.{is_plain_line, numbered, PlainLinesAreUtf8, PlainLinesAreRead, PlainTokensAreRead}
 use Rattle.sb_scripttext.proofs.WrittenOpenings.{start_reader, start_read}
 use Rattle.sb_scripttext.proofs.WrittenStatements.{AreSound, patience_number, statement_reader, statement_read, statement_there}
 use Rattle.sb_scripttext.proofs.WrittenTokens.{IsWhole, sound_target, channels_number, start_plain, statement_plain, patience_plain, heading_plain, script_plain}
 use Rattle.sb_scripttext.proofs.WrittenWords.{Texts, not_true, names_symm, or_false, within_read, policy_read}
 use Rattle.sb_scripttext.specs.StartFaults.{start_fault}
-use Rattle.sb_scripttext.specs.SoFar.{SoFar, nothing, is_empty, is_opening, is_in_thread, with_patience, with_start, with_target, one_thread_more, with_thread, one_statement_more, in_last_thread, named_by, with_statement}
+use Rattle.sb_scripttext.specs.SoFar.{SoFar, nothing, is_empty, is_opening, is_in_thread, with_patience, with_start, with_target, one_thread_more, with_thread, one_statement_more, in_last_thread, named_by, statement_at, with_statement}
 use Rattle.sb_scripttext.specs.Lines.{add_target, add_thread, at_start, heading, is_target_named, line_of, misplaced, new_name_at, not_here, patience, plain_line, policy_at, set_patience, start_line, statement_line}
 use Rattle.sb_scripttext.specs.Openings.{can_place}
 use Rattle.sb_scripttext.specs.ScriptTexts.{Absence, ScriptFault, absence_fault, grammar, absence, first_absence, finished}
@@ -40,12 +40,12 @@ use Rattle.sb_scripttext.specs.Writable.{is_writable_start, is_writable_statemen
 use Rattle.sb_scripttext.specs.Writing.{number_token, start_tokens, statement_tokens, thread_lines, policy_name, heading_tokens, target_lines, version_tokens, patience_tokens, script_lines, written}
 use Rattle.sb_scripttext.specs.WritingLaws.{WrittenScriptsAreRead}
 use Rattle.sb_scripttext.specs.declared.drafts.Named.{Named}
+use Rattle.sb_scripttext.specs.declared.drafts.StatementAt.{StatementAt}
 use Rattle.sb_scripttext.specs.declared.faults.ScriptKind.{ScriptKind}
 use Rattle.sb_scripttext.specs.declared.faults.ScriptKind.TheVariants.{UnknownWord, BadNumber, SameName, TooMany, BadStart}
 use Rattle.sb_text.specs.Readings.{on_line, read_lines, read_by}
-use Rattle.sb_text.specs.Spots.{by_tokens}
-use Rattle.sb_text.specs.Steps.{◌>>=◌, Read, at_left, at_token, end_at, later, version_at, with_first}
-use Rattle.sb_text.specs.Tokens.{Lexeme, Word}
+use Rattle.sb_text.specs.Steps.{◌>>=◌, Read, at_token, end_at, later, version_at}
+use Rattle.sb_text.specs.Tokens.{Lexeme, Lexemes, Word, by_tokens}
 use Rattle.sb_text.specs.Utf8Laws.{NotUtf8PlaceTells}
 use Rattle.sb_scripttext.specs.declared.faults.ScriptLimit.TheVariants.{Openings, Statements, Targets, Threads}
 use Rattle.sb_text.specs.declared.refusals.TokenFault.{TokenFault}
@@ -62,7 +62,7 @@ pub record Laws : Type 0 where
 -- a line
 
 line_read : Laws → (policies : List Policy) (sofar more : SoFar) (n : ℕ) (tokens : List Lexeme) (lines : List (List Lexeme)) → is_plain_line tokens ≡ true
-    → line_of policies sofar n tokens ≡ Ok more
+    → line_of policies sofar n (placed tokens) ≡ Ok more
     → read_lines (grammar policies) 1 sofar (numbered n (tokens ∷ lines)) ≡ read_lines (grammar policies) 1 more (numbered (n + 1) lines)
 unfolding read_lines
 line_read laws policies sofar more n tokens lines p e =
@@ -86,8 +86,8 @@ both_there : (targets : List TargetScript) (xs ys : List Named) → first_absenc
     → first_absence targets (xs ++ ys) ≡ None
 both_there targets [] ys h k = k
 both_there targets (x ∷ xs) ys h k =
-    let parts = none_absent (absence targets x) x.line (first_absence targets xs) h in
-    none_here (absence targets x) x.line (first_absence targets (xs ++ ys)) parts.0 (both_there targets xs ys parts.1 k)
+    let parts = none_absent (absence targets x) x.at.line (first_absence targets xs) h in
+    none_here (absence targets x) x.at.line (first_absence targets (xs ++ ys)) parts.0 (both_there targets xs ys parts.1 k)
 
 -- there is room for one more, and then for the others
 room : {A B : Type 0} (most : ℕ) (done : List A) (more : List B) → length done + suc (length more) ≤ most → nat_lt (length done) most ≡ true
@@ -103,19 +103,19 @@ few k most h = grind (arith, nat_tests)
 -- the patience
 
 -- a patience, with which the line ends
-abbrev then_patience : ℕ × List Lexeme → Result ℕ (TokenFault ScriptKind)
+abbrev then_patience : ℕ × Lexemes → Result ℕ (TokenFault ScriptKind)
 then_patience number = end_at (UnknownWord Extra) (UnknownWord Broken) number.1 >>= λ end. Ok number.0
 
 abbrev patient : ℕ → Result SoFar (TokenFault ScriptKind)
 patient n = Ok (with_patience nothing n)
 
-patience_read : Texts → (n : ℕ) → is_patience n ≡ true → patience (number_token n ∷ []) ≡ Ok n
+patience_read : Texts → (n : ℕ) → is_patience n ≡ true → patience (placed (number_token n ∷ [])) ≡ Ok n
 unfolding patience
 patience_read law n h =
     ap (λ (r : Read ℕ ScriptKind). r >>= then_patience) (within_read law 1 1000000 BadNumber (UnknownWord Missing) n [] (patience_number n h) h)
 
 patience_line : Laws → (policies : List Policy) (line n : ℕ) → is_patience n ≡ true
-    → line_of policies nothing line (patience_tokens n) ≡ Ok (with_patience nothing n)
+    → line_of policies nothing line (placed (patience_tokens n)) ≡ Ok (with_patience nothing n)
 unfolding line_of set_patience
 patience_line laws policies line n h = ap (λ (r : Result ℕ (TokenFault ScriptKind)). r >>= patient) (patience_read laws.texts n h)
 
@@ -126,12 +126,13 @@ abbrev opening : ℕ → List StartLine → SoFar
 opening n start = record { patience = Some n; start = start; targets = []; named = [] }
 
 -- what an opening line with these tokens after its first adds
-abbrev starting : List Lexeme → SoFar → StartLine → Result SoFar (TokenFault ScriptKind)
-starting tokens sofar start = at_start tokens (with_start sofar start)
+abbrev starting : Lexemes → Lexemes → SoFar → StartLine → Result SoFar (TokenFault ScriptKind)
+starting line tokens sofar start = at_start line tokens (with_start sofar start)
 
 -- an opening line is read by its reader
 start_by : (policies : List Policy) (n line : ℕ) (before : List StartLine) (start : StartLine)
-    → line_of policies (opening n before) line (start_tokens start) ≡ start_reader start (later (start_tokens start)) >>= starting (later (start_tokens start)) (opening n before)
+    → line_of policies (opening n before) line (placed (start_tokens start))
+    ≡ start_reader start (later (placed (start_tokens start))) >>= starting (placed (start_tokens start)) (later (placed (start_tokens start))) (opening n before)
 unfolding line_of plain_line start_line
 start_by policies n line before (Dir name) = refl
 start_by policies n line before (File name attributes) = refl
@@ -139,18 +140,18 @@ start_by policies n line before (Key name) = refl
 start_by policies n line before (Event name kind initial) = refl
 
 -- an opening line that can be placed, if there is room for one more
-abbrev placed : List Lexeme → ℕ → List StartLine → StartLine → Bool → Bool → Result SoFar (TokenFault ScriptKind)
-placed tokens n before start place room = at_start tokens (cond place (cond room (Ok (opening n (before ++ start ∷ []))) (Err (TooMany Openings))) (Err (BadStart (start_fault before start))))
+abbrev started : Lexemes → Lexemes → ℕ → List StartLine → StartLine → Bool → Bool → Result SoFar (TokenFault ScriptKind)
+started line tokens n before start place room = at_start line tokens (cond place (cond room (Ok (opening n (before ++ start ∷ []))) (Err (TooMany Openings))) (Err (BadStart (start_fault before start))))
 
 start_line_read : Texts → (policies : List Policy) (n line : ℕ) (before : List StartLine) (start : StartLine) → is_start start ≡ true
     → is_writable_start start ≡ true → can_place before start ≡ true → nat_lt (length before) 4096 ≡ true
-    → line_of policies (opening n before) line (start_tokens start) ≡ Ok (opening n (before ++ start ∷ []))
+    → line_of policies (opening n before) line (placed (start_tokens start)) ≡ Ok (opening n (before ++ start ∷ []))
 start_line_read law policies n line before start h w p l =
-    let tokens = later (start_tokens start) in
+    let first = placed (start_tokens start) in
     start_by policies n line before start
-    ∙ ap (λ (r : Result StartLine (TokenFault ScriptKind)). r >>= starting tokens (opening n before)) (start_read law start h w)
-    ∙ ap (λ t. placed tokens n before start t (nat_lt (length before) 4096)) p
-    ∙ ap (placed tokens n before start true) l
+    ∙ ap (λ (r : Result StartLine (TokenFault ScriptKind)). r >>= starting first (later first) (opening n before)) (start_read law start h w)
+    ∙ ap (λ t. started first (later first) n before start t (nat_lt (length before) 4096)) p
+    ∙ ap (started first (later first) n before start true) l
 
 starts_read : Laws → (policies : List Policy) (n line : ℕ) (before lines : List StartLine) → list_all is_start lines ≡ true
     → list_all is_writable_start lines ≡ true → is_ok (opened (before ++ lines)) ≡ true → length before + length lines ≤ 4096
@@ -203,32 +204,46 @@ in_thread sofar target threads before named =
     ap (λ threads. not (is_empty threads)) (last_behind sofar.targets (record target { threads = threads ++ before ∷ [] })) ∙ ap not (some_behind threads before)
 
 -- what a statement with these tokens after its first adds
-abbrev stating : List Lexeme → SoFar → ℕ → Statement → Result SoFar (TokenFault ScriptKind)
-stating tokens sofar line statement = at_left (with_first tokens) (with_statement sofar line statement)
+abbrev stating : Lexemes → Lexemes → SoFar → ℕ → Statement → Result SoFar (TokenFault ScriptKind)
+stating line tokens sofar number statement = at_token line (with_statement sofar (statement_at number tokens) statement)
 
 -- in a thread a line is a statement
-plain_in_thread : (w : List ℕ) (sofar : SoFar) (line : ℕ) (tokens : List Lexeme) → is_in_thread sofar ≡ true
-    → plain_line w sofar line tokens ≡ (statement_line w tokens >>= stating tokens sofar line)
+plain_in_thread : (w : List ℕ) (sofar : SoFar) (number : ℕ) (line tokens : Lexemes) → is_in_thread sofar ≡ true
+    → plain_line w sofar number line tokens ≡ (statement_line w line tokens >>= stating line tokens sofar number)
 unfolding plain_line
-plain_in_thread w sofar line tokens h =
-    by (is_in_thread sofar) (statement_line w tokens >>= stating tokens sofar line)
-    (cond (is_opening sofar) (start_line w tokens >>= starting tokens sofar) (not_here w tokens)) h
+plain_in_thread w sofar number line tokens h =
+    by (is_in_thread sofar) (statement_line w line tokens >>= stating line tokens sofar number)
+    (cond (is_opening sofar) (start_line w line tokens >>= starting line tokens sofar) (not_here w line)) h
   where
     by : (t : Bool) (a b : Result SoFar (TokenFault ScriptKind)) → t ≡ true → cond t a b ≡ a
     by true a b h = refl
     by false a b h = absurd (false≢true h)
 
 -- a statement is read by its reader
-statement_by : (policies : List Policy) (sofar : SoFar) (line : ℕ) (statement : Statement) → is_in_thread sofar ≡ true
-    → line_of policies sofar line (statement_tokens statement) ≡ statement_reader statement (later (statement_tokens statement)) >>= stating (later (statement_tokens statement)) sofar line
+
+-- what the line of a statement adds, if it is read as it was written
+abbrev read_by_reader : SoFar → ℕ → Statement → Result SoFar (TokenFault ScriptKind)
+read_by_reader sofar number statement =
+    statement_reader statement (placed (statement_tokens statement)) (later (placed (statement_tokens statement)))
+    >>= stating (placed (statement_tokens statement)) (later (placed (statement_tokens statement))) sofar number
+
+statement_by : (policies : List Policy) (sofar : SoFar) (number : ℕ) (statement : Statement) → is_in_thread sofar ≡ true
+    → line_of policies sofar number (placed (statement_tokens statement)) ≡ read_by_reader sofar number statement
 unfolding line_of statement_line
-statement_by policies sofar line (Call tag args) h = plain_in_thread (codes "call") sofar line (later (statement_tokens (Call tag args))) h
-statement_by policies sofar line (Store target word value) h = plain_in_thread (codes "store") sofar line (later (statement_tokens (Store target word value))) h
-statement_by policies sofar line (Exchange target word old new) h =
-    plain_in_thread (codes "exchange") sofar line (later (statement_tokens (Exchange target word old new))) h
-statement_by policies sofar line (Load target word) h = plain_in_thread (codes "load") sofar line (later (statement_tokens (Load target word))) h
-statement_by policies sofar line (Wait target word value most) h =
-    plain_in_thread (codes "wait") sofar line (later (statement_tokens (Wait target word value most))) h
+statement_by policies sofar number (Call tag args) h =
+    let line = placed (statement_tokens (Call tag args)) in plain_in_thread (codes "call") sofar number line (later line) h
+statement_by policies sofar number (Store target word value) h =
+    let line = placed (statement_tokens (Store target word value)) in plain_in_thread (codes "store") sofar number line (later line) h
+statement_by policies sofar number (Exchange target word old new) h =
+    let line = placed (statement_tokens (Exchange target word old new)) in plain_in_thread (codes "exchange") sofar number line (later line) h
+statement_by policies sofar number (Load target word) h =
+    let line = placed (statement_tokens (Load target word)) in plain_in_thread (codes "load") sofar number line (later line) h
+statement_by policies sofar number (Wait target word value most) h =
+    let line = placed (statement_tokens (Wait target word value most)) in plain_in_thread (codes "wait") sofar number line (later line) h
+
+-- where a statement that was written on this line is
+abbrev written_at : ℕ → Statement → StatementAt
+written_at number statement = statement_at number (later (placed (statement_tokens statement)))
 
 -- the last thread has one statement more
 abbrev told_more : SoFar → TargetScript → List (List Statement) → List Statement → List Named → Statement → Bool → Result SoFar ScriptKind
@@ -236,11 +251,11 @@ told_more sofar target threads before named statement room =
     with_targets sofar named (with_last sofar (with_its_threads target (with_last_thread threads (cond room (Ok (before ++ statement ∷ [])) (Err (TooMany Statements))))))
 
 statement_told : (sofar : SoFar) (target : TargetScript) (threads : List (List Statement)) (before : List Statement) (named : List Named)
-    (line : ℕ) (statement : Statement) → nat_lt (length before) 4096 ≡ true
-    → with_statement (inside sofar target (threads ++ before ∷ []) named) line statement
-    ≡ Ok (inside sofar target (threads ++ (before ++ statement ∷ []) ∷ []) (named ++ named_by line statement))
-statement_told sofar target threads before named line statement l =
-    let names = named ++ named_by line statement in
+    (at : StatementAt) (statement : Statement) → nat_lt (length before) 4096 ≡ true
+    → with_statement (inside sofar target (threads ++ before ∷ []) named) at statement
+    ≡ Ok (inside sofar target (threads ++ (before ++ statement ∷ []) ∷ []) (named ++ named_by at statement))
+statement_told sofar target threads before named at statement l =
+    let names = named ++ named_by at statement in
     ap (with_targets sofar names) (changed_behind (in_last_thread statement) sofar.targets (record target { threads = threads ++ before ∷ [] }))
     ∙ ap (λ r. with_targets sofar names (with_last sofar (with_its_threads target r))) (changed_behind (one_statement_more statement) threads before)
     ∙ ap (told_more sofar target threads before names statement) l
@@ -248,13 +263,14 @@ statement_told sofar target threads before named line statement l =
 statement_line_read : Texts → (policies : List Policy) (all : List TargetScript) (sofar : SoFar) (target : TargetScript) (threads : List (List Statement))
     (before : List Statement) (named : List Named) (line : ℕ) (statement : Statement) → AreSound all → is_statement all statement ≡ true
     → is_writable_statement statement ≡ true → nat_lt (length before) 4096 ≡ true
-    → line_of policies (inside sofar target (threads ++ before ∷ []) named) line (statement_tokens statement)
-    ≡ Ok (inside sofar target (threads ++ (before ++ statement ∷ []) ∷ []) (named ++ named_by line statement))
+    → line_of policies (inside sofar target (threads ++ before ∷ []) named) line (placed (statement_tokens statement))
+    ≡ Ok (inside sofar target (threads ++ (before ++ statement ∷ []) ∷ []) (named ++ named_by (written_at line statement) statement))
 statement_line_read law policies all sofar target threads before named line statement s h w l =
     let here = inside sofar target (threads ++ before ∷ []) named in
+    let first = placed (statement_tokens statement) in
     statement_by policies here line statement (in_thread sofar target threads before named)
-    ∙ ap (λ (r : Result Statement (TokenFault ScriptKind)). r >>= stating (later (statement_tokens statement)) here line) (statement_read law all statement s h w)
-    ∙ ap (at_left (with_first (later (statement_tokens statement)))) (statement_told sofar target threads before named line statement l)
+    ∙ ap (λ (r : Result Statement (TokenFault ScriptKind)). r >>= stating first (later first) here line) (statement_read law all first statement s h w)
+    ∙ ap (at_token first) (statement_told sofar target threads before named (written_at line statement) statement l)
 
 -- if lines lead: all that is named is there
 record Leads (policies : List Policy) (all : List TargetScript) (old : SoFar) (line : ℕ) (lines : List (List Lexeme)) (new : List Named → SoFar) : Type 0 where
@@ -277,9 +293,9 @@ statements_read laws policies all sofar target threads before named line (statem
     let sound = and_parts (is_statement all statement) (list_all (is_statement all) more) h in
     let writable = and_parts (is_writable_statement statement) (list_all is_writable_statement more) w in
     let told = before ++ statement ∷ [] in
-    let names = named ++ named_by line statement in
+    let names = named ++ named_by (written_at line statement) statement in
     let further = statements_read laws policies all sofar target threads told names (line + 1) more s sound.1 writable.1
-    (room_behind 4096 before statement more l) (both_there all named (named_by line statement) there (statement_there all line statement sound.0)) in
+    (room_behind 4096 before statement more l) (both_there all named (named_by (written_at line statement) statement) there (statement_there all (written_at line statement) statement sound.0)) in
     record {
       names = further.names;
       next = further.next;
@@ -301,12 +317,13 @@ begun sofar target threads named room =
 
 thread_line : (policies : List Policy) (sofar : SoFar) (target : TargetScript) (threads : List (List Statement)) (named : List Named) (line : ℕ)
     → nat_lt (length threads) 4 ≡ true
-    → line_of policies (inside sofar target threads named) line (Word (codes "thread") ∷ []) ≡ Ok (inside sofar target (threads ++ [] ∷ []) named)
+    → line_of policies (inside sofar target threads named) line (placed (Word (codes "thread") ∷ [])) ≡ Ok (inside sofar target (threads ++ [] ∷ []) named)
 unfolding line_of add_thread
 thread_line policies sofar target threads named line l =
     let here = record target { threads = threads } in
-    ap (λ t. cond t (misplaced []) (at_left 1 (with_thread (inside sofar target threads named)))) (some_behind sofar.targets here)
-    ∙ ap (at_left 1) (ap (with_targets sofar named) (changed_behind one_thread_more sofar.targets here) ∙ ap (begun sofar target threads named) l)
+    let first = placed (Word (codes "thread") ∷ []) in
+    ap (λ t. cond t (misplaced first) (at_token first (with_thread (inside sofar target threads named)))) (some_behind sofar.targets here)
+    ∙ ap (at_token first) (ap (with_targets sofar named) (changed_behind one_thread_more sofar.targets here) ∙ ap (begun sofar target threads named) l)
 
 threads_read : Laws → (policies : List Policy) (all : List TargetScript) (sofar : SoFar) (target : TargetScript) (threads : List (List Statement))
     (named : List Named) (line : ℕ) (more : List (List Statement)) → AreSound all → list_all (is_thread all) more ≡ true
@@ -352,28 +369,28 @@ record AreNamed (policies : List Policy) : Type 0 where
 abbrev bare : TargetScript → TargetScript
 bare target = record target { threads = [] }
 
-abbrev with_channels : List ℕ → ℕ → ℕ × List Lexeme → Result TargetScript (TokenFault ScriptKind)
+abbrev with_channels : List ℕ → ℕ → ℕ × Lexemes → Result TargetScript (TokenFault ScriptKind)
 with_channels name policy channels =
     end_at (UnknownWord Extra) (UnknownWord Broken) channels.1 >>= λ end. Ok (record { name = name; policy = policy; channels = channels.0; threads = [] })
 
-abbrev with_policy : List ℕ → ℕ × List Lexeme → Result TargetScript (TokenFault ScriptKind)
+abbrev with_policy : List ℕ → ℕ × Lexemes → Result TargetScript (TokenFault ScriptKind)
 with_policy name policy = number_within 1 8 BadNumber (UnknownWord Missing) policy.1 >>= with_channels name policy.0
 
-abbrev with_name : List Policy → List ℕ × List Lexeme → Result TargetScript (TokenFault ScriptKind)
+abbrev with_name : List Policy → List ℕ × Lexemes → Result TargetScript (TokenFault ScriptKind)
 with_name policies name = policy_at policies name.1 >>= with_policy name.0
 
 -- a name, and the tokens after it
-abbrev then_name : List Lexeme → List ℕ → Read (List ℕ) ScriptKind
+abbrev then_name : Lexemes → List ℕ → Read (List ℕ) ScriptKind
 then_name rest name = Ok (name, rest)
 
 heading_read : Texts → (policies : List Policy) (targets : List TargetScript) (target : TargetScript)
     → AreNamed policies → is_judged (length policies) target ≡ true → is_short_name target.name ≡ true
     → list_any (is_target_named target.name) targets ≡ false → (nat_le 1 target.channels && nat_le target.channels 8) ≡ true
-    → heading policies targets (later (heading_tokens policies target)) ≡ Ok (bare target)
+    → heading policies targets (later (placed (heading_tokens policies target))) ≡ Ok (bare target)
 unfolding heading new_name_at
 heading_read law policies targets target named judged short new channels =
     let rest = Word (policy_name policies target.policy) ∷ number_token target.channels ∷ [] in
-    ap (λ (r : Result (List ℕ) ScriptKind). (at_token (Word target.name ∷ rest) r >>= then_name rest) >>= with_name policies)
+    ap (λ (r : Result (List ℕ) ScriptKind). (at_token (placed (Word target.name ∷ rest)) r >>= then_name (placed rest)) >>= with_name policies)
     (by_tests (is_short_name target.name) (list_any (is_target_named target.name) targets) short new)
     ∙ ap (λ (r : Read ℕ ScriptKind). r >>= with_policy target.name) (policy_read policies target.policy (number_token target.channels ∷ []) named.few named.apart judged)
     ∙ ap (λ (r : Read ℕ ScriptKind). r >>= with_channels target.name target.policy)
@@ -385,19 +402,19 @@ heading_read law policies targets target named judged short new channels =
     by_tests true true e f = absurd (false≢true (sym f))
     by_tests false taken e f = absurd (false≢true e)
 
-abbrev headed_below : ℕ → SoFar → TargetScript → Bool → Result SoFar (TokenFault ScriptKind)
-headed_below left sofar target room = at_left left (cond room (Ok (inside sofar target [] sofar.named)) (Err (TooMany Targets)))
+abbrev headed_below : Lexemes → SoFar → TargetScript → Bool → Result SoFar (TokenFault ScriptKind)
+headed_below line sofar target room = at_token line (cond room (Ok (inside sofar target [] sofar.named)) (Err (TooMany Targets)))
 
 heading_line : Texts → (policies : List Policy) (sofar : SoFar) (line : ℕ) (target : TargetScript)
     → AreNamed policies → is_judged (length policies) target ≡ true → is_short_name target.name ≡ true
     → list_any (is_target_named target.name) sofar.targets ≡ false → (nat_le 1 target.channels && nat_le target.channels 8) ≡ true
     → nat_lt (length sofar.targets) 8 ≡ true
-    → line_of policies sofar line (heading_tokens policies target) ≡ Ok (inside sofar target [] sofar.named)
+    → line_of policies sofar line (placed (heading_tokens policies target)) ≡ Ok (inside sofar target [] sofar.named)
 unfolding line_of add_target
 heading_line law policies sofar line target named judged short new channels l =
-    let left = with_first (later (heading_tokens policies target)) in
-    ap (λ (r : Result TargetScript (TokenFault ScriptKind)). r >>= λ target. at_left left (with_target sofar target)) (heading_read law policies sofar.targets target named judged short new channels)
-    ∙ ap (headed_below left sofar target) l
+    let first = placed (heading_tokens policies target) in
+    ap (λ (r : Result TargetScript (TokenFault ScriptKind)). r >>= λ target. at_token first (with_target sofar target)) (heading_read law policies sofar.targets target named judged short new channels)
+    ∙ ap (headed_below first sofar target) l
 
 -- names that no target so far has
 
@@ -488,10 +505,10 @@ lines_read : Laws → (policies : List Policy) (text : List ℕ) (script : Scrip
     → (read_lines (grammar policies) 1 nothing (numbered 2 (patience_tokens script.patience ∷ (map start_tokens script.start ++ flat_map (target_lines policies) script.targets)))
     >>= λ sofar. finished text sofar) ≡ Ok script
 unfolding read_lines
-lines_read laws policies text script named whole placed differ =
+lines_read laws policies text script named whole opens differ =
     let n = script.patience in
     let targets_lines = flat_map (target_lines policies) script.targets in
-    let starts = starts_read laws policies n 3 [] script.start whole.starts whole.writable_starts placed (few (length script.start) 4096 whole.few_starts) in
+    let starts = starts_read laws policies n 3 [] script.start whole.starts whole.writable_starts opens (few (length script.start) 4096 whole.few_starts) in
     let targets = targets_read laws policies script.targets (opening n script.start) starts.0 script.targets named whole.targets
     (record { sound = whole.targets.sound; judged = whole.judged; writable = whole.writable_targets; differ = differ }) (new_to_none script.targets)
     (few (length script.targets) 8 whole.targets.few) refl in
@@ -507,7 +524,7 @@ lines_read laws policies text script named whole placed differ =
 record Parts (policies : List Policy) (script : Script) : Type 0 where
   named : AreNamed policies
   whole : IsWhole policies script
-  placed : is_ok (opened script.start) ≡ true
+  opens : is_ok (opened script.start) ≡ true
   differ : names_differ script.targets ≡ true
 
 parts_of : (policies : List Policy) (script : Script) → are_short_named policies ≡ true → is_ready policies script ≡ true → is_writable script ≡ true
@@ -535,7 +552,7 @@ parts_of policies script short r w =
         writable_starts = writable.0;
         writable_targets = writable.1;
       };
-      placed = outer.1;
+      opens = outer.1;
       differ = counted.1;
     }
 
@@ -551,4 +568,4 @@ written_scripts_are_read laws policies script short r w =
     ∙ ap (λ tokens. (on_line by_tokens (record { number = 1; text = written_line version_tokens }) (version_at (UnknownWord NoVersion) (codes "sandbox-script") 1 tokens)
     >>= λ version. read_lines (grammar policies) version nothing (numbered 2 below)) >>= λ sofar. finished text sofar)
     (laws.tokens version_tokens refl)
-    ∙ lines_read laws policies text script parts.named parts.whole parts.placed parts.differ
+    ∙ lines_read laws policies text script parts.named parts.whole parts.opens parts.differ

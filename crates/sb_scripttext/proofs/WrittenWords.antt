@@ -24,7 +24,8 @@ use Rattle.sb_text.specs.NumberLaws.{DecimalsAreRead}
 use Rattle.sb_text.specs.Numbers.{is_decimal_digit, are_digits, number_of}
 use Rattle.sb_text.specs.Steps.{◌>>=◌, Read, at_token, or_fails, or_fault}
 use Rattle.sb_text.specs.declared.refusals.WordFault.TheVariants.{Missing}
-use Rattle.sb_text.specs.Tokens.{Lexeme, Word}
+use Rattle.sb_text.specs.TokenLaws.{placed}
+use Rattle.sb_text.specs.Tokens.{Lexeme, Lexemes, Word}
 use Rattle.sb_base.specs.Names.{is_name_of}
 
 -- numbers
@@ -53,23 +54,24 @@ pub number_digits : Texts → (n : ℕ) → is_word64 n ≡ true → are_digits 
 number_digits law n h = made _ _ n (law.numbers n (small n h)).0
 
 pub number_read : Texts → (quoted missing : ScriptKind) (n : ℕ) (rest : List Lexeme) → is_word64 n ≡ true
-    → number_at quoted missing (number_token n ∷ rest) ≡ Ok (n, rest)
+    → number_at quoted missing (placed (number_token n ∷ rest)) ≡ Ok (n, placed rest)
 unfolding number_at
-number_read law quoted missing n rest h = ap (λ o. or_fails (number_token n ∷ rest) BadNumber o >>= λ n. Ok (n, rest)) (number_back law n h)
+number_read law quoted missing n rest h = ap (λ o. or_fails (placed (number_token n ∷ rest)) BadNumber o >>= λ n. Ok (n, placed rest)) (number_back law n h)
 
 -- what `number_within` does with a number
-abbrev ranged : List Lexeme → ℕ → ℕ → ℕ × List Lexeme → Read ℕ ScriptKind
+abbrev ranged : Lexemes → ℕ → ℕ → ℕ × Lexemes → Read ℕ ScriptKind
 ranged due lo hi n = at_token due (within lo hi n.0) >>= λ number. Ok (number, n.1)
 
 -- a number that is in its range, with the tokens after it
-abbrev in_range : List Lexeme → ℕ → List Lexeme → Bool → Read ℕ ScriptKind
+abbrev in_range : Lexemes → ℕ → Lexemes → Bool → Read ℕ ScriptKind
 in_range due n rest t = at_token due (cond t (Ok n) (Err BadNumber)) >>= λ number. Ok (number, rest)
 
 pub within_read : Texts → (lo hi : ℕ) (quoted missing : ScriptKind) (n : ℕ) (rest : List Lexeme) → is_word64 n ≡ true
-    → (nat_le lo n && nat_le n hi) ≡ true → number_within lo hi quoted missing (number_token n ∷ rest) ≡ Ok (n, rest)
+    → (nat_le lo n && nat_le n hi) ≡ true → number_within lo hi quoted missing (placed (number_token n ∷ rest)) ≡ Ok (n, placed rest)
 unfolding number_within
 within_read law lo hi quoted missing n rest h k =
-    ap (λ (r : Read ℕ ScriptKind). r >>= ranged (number_token n ∷ rest) lo hi) (number_read law quoted missing n rest h) ∙ ap (in_range (number_token n ∷ rest) n rest) k
+    ap (λ (r : Read ℕ ScriptKind). r >>= ranged (placed (number_token n ∷ rest)) lo hi) (number_read law quoted missing n rest h)
+    ∙ ap (in_range (placed (number_token n ∷ rest)) n (placed rest)) k
 
 pub short_number : (n : ℕ) → nat_le n most_32 ≡ true → is_word64 n ≡ true
 short_number n h = grind (arith, nat_tests)
@@ -80,16 +82,16 @@ at_most n h = grind (arith, nat_tests)
 -- the number of a target or a channel
 
 -- what `short_at` does with a number
-abbrev shortened : ℕ × List Lexeme → Read ℕ ScriptKind
+abbrev shortened : ℕ × Lexemes → Read ℕ ScriptKind
 shortened n = Ok (short n.0, n.1)
 
-abbrev short_or : ℕ → List Lexeme → Bool → Read ℕ ScriptKind
+abbrev short_or : ℕ → Lexemes → Bool → Read ℕ ScriptKind
 short_or n rest t = Ok (cond t n most_32, rest)
 
-pub short_read : Texts → (n : ℕ) (rest : List Lexeme) → nat_le n most_32 ≡ true → short_at (number_token n ∷ rest) ≡ Ok (n, rest)
+pub short_read : Texts → (n : ℕ) (rest : List Lexeme) → nat_le n most_32 ≡ true → short_at (placed (number_token n ∷ rest)) ≡ Ok (n, placed rest)
 unfolding short_at
 short_read law n rest h =
-    ap (λ (r : Read ℕ ScriptKind). r >>= shortened) (number_read law BadNumber (WrongArgs Missing) n rest (short_number n h)) ∙ ap (short_or n rest) h
+    ap (λ (r : Read ℕ ScriptKind). r >>= shortened) (number_read law BadNumber (WrongArgs Missing) n rest (short_number n h)) ∙ ap (short_or n (placed rest)) h
 
 -- the place of a word
 
@@ -104,8 +106,8 @@ no_state (b ∷ w) h =
     ap (λ t. t && pointwise nat_eq w (codes "tate")) (no_state_at b digit)
 
 -- what `place_of` does with a word that is `state` or not, and is this number or none
-abbrev placed : Bool → Option ℕ → Result ℕ ScriptKind
-placed t number = cond t (Ok 0) (or_fault BadNumber number >>= λ i. block_place i)
+abbrev place_by : Bool → Option ℕ → Result ℕ ScriptKind
+place_by t number = cond t (Ok 0) (or_fault BadNumber number >>= λ i. block_place i)
 
 abbrev in_block : ℕ → Bool → Result ℕ ScriptKind
 in_block i t = cond t (Ok (1 + i)) (Err NoSuchWord)
@@ -113,8 +115,8 @@ in_block i t = cond t (Ok (1 + i)) (Err NoSuchWord)
 place_back : Texts → (at : ℕ) → nat_le at 64 ≡ true → place_of (place_word at) ≡ Ok at
 place_back law zero h = refl
 place_back law (suc i) h =
-    ap (λ t. placed t (number_of (decimal i))) (no_state (decimal i) (number_digits law i (number i h)))
-    ∙ ap (placed false) (number_back law i (number i h))
+    ap (λ t. place_by t (number_of (decimal i))) (no_state (decimal i) (number_digits law i (number i h)))
+    ∙ ap (place_by false) (number_back law i (number i h))
     ∙ ap (in_block i) (few i h)
     ∙ ap Ok {x = 1 + i} {y = suc i} (omega arith)
   where
@@ -125,12 +127,12 @@ place_back law (suc i) h =
     few i h = grind (arith, nat_tests)
 
 -- a place, and the tokens after it
-abbrev then_place : List Lexeme → ℕ → Read ℕ ScriptKind
+abbrev then_place : Lexemes → ℕ → Read ℕ ScriptKind
 then_place rest place = Ok (place, rest)
 
-pub place_read : Texts → (at : ℕ) (rest : List Lexeme) → nat_le at 64 ≡ true → place_at (Word (place_word at) ∷ rest) ≡ Ok (at, rest)
+pub place_read : Texts → (at : ℕ) (rest : List Lexeme) → nat_le at 64 ≡ true → place_at (placed (Word (place_word at) ∷ rest)) ≡ Ok (at, placed rest)
 unfolding place_at
-place_read law at rest h = ap (λ (p : Result ℕ ScriptKind). at_token (Word (place_word at) ∷ rest) p >>= then_place rest) (place_back law at h)
+place_read law at rest h = ap (λ (p : Result ℕ ScriptKind). at_token (placed (Word (place_word at) ∷ rest)) p >>= then_place (placed rest)) (place_back law at h)
 
 -- strings
 
@@ -138,23 +140,23 @@ place_read law at rest h = ap (λ (p : Result ℕ ScriptKind). at_token (Word (p
 pub string_back : Texts → (us : List ℕ) → is_text us ≡ true → ComesBack us
 string_back law us h = let parts = and_parts _ _ h in law.strings us parts.0 parts.1
 
-pub string_read : Texts → (unquoted missing : ScriptKind) (us : List ℕ) (rest : List Lexeme) → is_text us ≡ true → string_at unquoted missing (string_token us ∷ rest) ≡ Ok (us, rest)
+pub string_read : Texts → (unquoted missing : ScriptKind) (us : List ℕ) (rest : List Lexeme) → is_text us ≡ true → string_at unquoted missing (placed (string_token us ∷ rest)) ≡ Ok (us, placed rest)
 unfolding string_at
-string_read law unquoted missing us rest h = ap (λ us. Ok (us, rest)) (string_back law us h).string
+string_read law unquoted missing us rest h = ap (λ us. Ok (us, placed rest)) (string_back law us h).string
 
 -- what `name_at` does with a string
-abbrev naming : List Lexeme → List ℕ × List Lexeme → Read (List ℕ) ScriptKind
+abbrev naming : Lexemes → List ℕ × Lexemes → Read (List ℕ) ScriptKind
 naming due units = at_token due (name units.0) >>= λ named. Ok (named, units.1)
 
-abbrev named : List Lexeme → List ℕ → List Lexeme → Bool → Read (List ℕ) ScriptKind
+abbrev named : Lexemes → List ℕ → Lexemes → Bool → Read (List ℕ) ScriptKind
 named due us rest t = at_token due (cond t (Ok us) (Err BadName)) >>= λ named. Ok (named, rest)
 
 pub name_read : Texts → (unquoted missing : ScriptKind) (us : List ℕ) (rest : List Lexeme) → is_text us ≡ true → is_name_of us ≡ true
-    → name_at unquoted missing (string_token us ∷ rest) ≡ Ok (us, rest)
+    → name_at unquoted missing (placed (string_token us ∷ rest)) ≡ Ok (us, placed rest)
 unfolding name_at
 name_read law unquoted missing us rest h k =
-    ap (λ (r : Read (List ℕ) ScriptKind). r >>= naming (string_token us ∷ rest)) (string_read law unquoted missing us rest h)
-    ∙ ap (named (string_token us ∷ rest) us rest) k
+    ap (λ (r : Read (List ℕ) ScriptKind). r >>= naming (placed (string_token us ∷ rest))) (string_read law unquoted missing us rest h)
+    ∙ ap (named (placed (string_token us ∷ rest)) us (placed rest)) k
 
 -- calls
 
@@ -172,12 +174,12 @@ call_back EventOpen = refl
 call_back HandleClose = refl
 
 -- a call, and the tokens after it
-abbrev then_tag : List Lexeme → CallTag → Read CallTag ScriptKind
+abbrev then_tag : Lexemes → CallTag → Read CallTag ScriptKind
 then_tag rest tag = Ok (tag, rest)
 
-pub tag_read : (tag : CallTag) (rest : List Lexeme) → tag_at (Word (call_word tag) ∷ rest) ≡ Ok (tag, rest)
+pub tag_read : (tag : CallTag) (rest : List Lexeme) → tag_at (placed (Word (call_word tag) ∷ rest)) ≡ Ok (tag, placed rest)
 unfolding tag_at
-tag_read tag rest = ap (λ o. or_fails (Word (call_word tag) ∷ rest) UnknownCall o >>= then_tag rest) (call_back tag)
+tag_read tag rest = ap (λ o. or_fails (placed (Word (call_word tag) ∷ rest)) UnknownCall o >>= then_tag (placed rest)) (call_back tag)
 
 -- policies
 
@@ -220,14 +222,14 @@ position_back policies i h k =
     below i n k = grind (arith, nat_tests)
 
 -- a policy, and the tokens after it
-abbrev then_policy : List Lexeme → ℕ → Read ℕ ScriptKind
+abbrev then_policy : Lexemes → ℕ → Read ℕ ScriptKind
 then_policy rest policy = Ok (policy, rest)
 
 pub policy_read : (policies : List Policy) (i : ℕ) (rest : List Lexeme) → length policies ≤ 8 → are_named_apart policies ≡ true → nat_lt i (length policies) ≡ true
-    → policy_at policies (Word (policy_name policies i) ∷ rest) ≡ Ok (i, rest)
+    → policy_at policies (placed (Word (policy_name policies i) ∷ rest)) ≡ Ok (i, placed rest)
 unfolding policy_at
 policy_read policies i rest few h k =
     let short : nat_le i most_32 ≡ true = grind (arith, nat_tests, few, k) in
-    let due = Word (policy_name policies i) ∷ rest in
-    ap (λ o. or_fails due NoSuchPolicy o >>= λ place. at_token due (policy_number place) >>= then_policy rest) (position_back policies i h k)
-    ∙ ap (λ b. at_token due (cond b (Ok i) (Err NoSuchPolicy)) >>= then_policy rest) short
+    let due = placed (Word (policy_name policies i) ∷ rest) in
+    ap (λ o. or_fails due NoSuchPolicy o >>= λ place. at_token due (policy_number place) >>= then_policy (placed rest)) (position_back policies i h k)
+    ∙ ap (λ b. at_token due (cond b (Ok i) (Err NoSuchPolicy)) >>= then_policy (placed rest)) short

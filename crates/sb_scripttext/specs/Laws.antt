@@ -12,7 +12,7 @@ use Rattle.sb_scripttext.specs.declared.faults.ScriptKind.TheVariants.{NoSuchTar
 use Rattle.sb_text.specs.LineLaws.{ended, is_line}
 use Rattle.sb_text.specs.Lines.{raw_lines, lines_of, is_skipped, without_cr}
 use Rattle.sb_text.specs.Readings.{is_some_line, renumbered, behind}
-use Rattle.sb_text.specs.Tokens.{Lexeme}
+use Rattle.sb_text.specs.Tokens.{Lexemes}
 use Rattle.sb_text.specs.Utf8.{not_utf8_place}
 
 -- a fault that is looked for when all else was read
@@ -38,4 +38,4 @@ SkippedLinesCountAlone = (policies : List Policy) (front line rest : List ℕ) �
 
 -- the arguments that are read for a call fit it
 abbrev pub ReadArgumentsFit : Type 0
-ReadArgumentsFit = (tag : CallTag) (tokens rest : List Lexeme) (args : List Arg) → args_at (shape_of tag) tokens ≡ Ok (args, rest) → fits tag args ≡ true
+ReadArgumentsFit = (tag : CallTag) (tokens rest : Lexemes) (args : List Arg) → args_at (shape_of tag) tokens ≡ Ok (args, rest) → fits tag args ≡ true

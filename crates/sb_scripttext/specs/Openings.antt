@@ -9,19 +9,19 @@ use Rattle.sb_scripttext.specs.Steps.{number_within, name_at}
 use Rattle.sb_text.specs.Steps.{◌>>=◌, end_at}
 use Rattle.sb_scripttext.specs.declared.faults.ScriptKind.{ScriptKind}
 use Rattle.sb_scripttext.specs.declared.faults.ScriptKind.TheVariants.{UnknownWord, BadNumber, BadStart}
-use Rattle.sb_text.specs.Tokens.{Lexeme}
+use Rattle.sb_text.specs.Tokens.{Lexemes}
 use Rattle.sb_text.specs.declared.refusals.TokenFault.{TokenFault}
 use Rattle.sb_text.specs.declared.refusals.WordFault.TheVariants.{Missing, Extra, Broken, Unquoted}
 
 -- `dir "NAME"`, after its first word
-unfoldable pub dir : List Lexeme → Result StartLine (TokenFault ScriptKind)
+unfoldable pub dir : Lexemes → Result StartLine (TokenFault ScriptKind)
 dir tokens = do
   name ← name_at (UnknownWord Unquoted) (UnknownWord Missing) tokens
   end ← end_at (UnknownWord Extra) (UnknownWord Broken) name.1
   Ok (Dir name.0)
 
 -- `file "NAME" ATTR`, after its first word
-unfoldable pub file : List Lexeme → Result StartLine (TokenFault ScriptKind)
+unfoldable pub file : Lexemes → Result StartLine (TokenFault ScriptKind)
 file tokens = do
   name ← name_at (UnknownWord Unquoted) (UnknownWord Missing) tokens
   attributes ← number_within 0 most_32 BadNumber (UnknownWord Missing) name.1
@@ -29,14 +29,14 @@ file tokens = do
   Ok (File name.0 attributes.0)
 
 -- `key "NAME"`, after its first word
-unfoldable pub key : List Lexeme → Result StartLine (TokenFault ScriptKind)
+unfoldable pub key : Lexemes → Result StartLine (TokenFault ScriptKind)
 key tokens = do
   name ← name_at (UnknownWord Unquoted) (UnknownWord Missing) tokens
   end ← end_at (UnknownWord Extra) (UnknownWord Broken) name.1
   Ok (Key name.0)
 
 -- `event "NAME" KIND INITIAL`, after its first word
-unfoldable pub event : List Lexeme → Result StartLine (TokenFault ScriptKind)
+unfoldable pub event : Lexemes → Result StartLine (TokenFault ScriptKind)
 event tokens = do
   name ← name_at (UnknownWord Unquoted) (UnknownWord Missing) tokens
   kind ← number_within 0 1 BadNumber (UnknownWord Missing) name.1

@@ -8,10 +8,8 @@ use Rattle.sb_statements.specs.declared.schedules.Schedule.{Schedule}
 use Rattle.sb_statements.specs.declared.scripts.TargetScript.{TargetScript}
 use Rattle.sb_text.specs.Lines.{NumberedLine, raw_lines, lines_of}
 use Rattle.sb_text.specs.Readings.{Grammar, read_by}
-use Rattle.sb_text.specs.Spots.{by_words}
-use Rattle.sb_text.specs.Steps.{◌>>=◌}
-use Rattle.sb_text.specs.WordVersions.{version_in_words}
-use Rattle.sb_text.specs.Words.{words_of}
+use Rattle.sb_text.specs.Steps.{◌>>=◌, version_at}
+use Rattle.sb_text.specs.Tokens.{by_words, words_of}
 use Rattle.sb_text.specs.declared.refusals.LineFault.{LineFault}
 use Rattle.sb_text.specs.declared.refusals.TokenFault.{TokenFault}
 use Rattle.sb_text.specs.declared.refusals.WordFault.TheVariants.{NoVersion}
@@ -22,7 +20,7 @@ ScheduleFault = LineFault ScheduleKind
 
 -- the version line is `sandbox-schedule 1`
 abbrev pub schedule_version : List ℕ → Result ℕ (TokenFault ScheduleKind)
-schedule_version line = version_in_words (UnknownWord NoVersion) (codes "sandbox-schedule") (words_of line)
+schedule_version line = version_at (UnknownWord NoVersion) (codes "sandbox-schedule") 1 (words_of line)
 
 -- what was read so far, and what a line adds to it
 abbrev pub add_line : List TargetScript → Drafted → NumberedLine → Result Drafted (TokenFault ScheduleKind)

@@ -14,9 +14,7 @@ use Rattle.sb_text.specs.Lines.{NumberedLine}
 use Rattle.sb_text.specs.MissingTexts.{line_or_empty}
 use Rattle.sb_text.specs.Numbers.{number_of}
 use Rattle.sb_text.specs.Readings.{Grammar, fault_on, read_text}
-use Rattle.sb_text.specs.Spots.{by_tokens}
-use Rattle.sb_text.specs.Tokens.{tokens_of}
-use Rattle.sb_text.specs.Words.{words_of}
+use Rattle.sb_text.specs.Tokens.{Lexemes, Next, End, Word, Quoted, Bad, by_tokens, tokens_of, words_of}
 use Rattle.sb_text.specs.declared.refusals.LineFault.{LineFault}
 use Rattle.sb_text.specs.declared.refusals.TokenFault.{TokenFault}
 use Rattle.sb_text.specs.declared.refusals.WordFault.TheVariants.{NoVersion}
@@ -43,13 +41,13 @@ grammar policies = record { layout = by_tokens; version = script_version; no_ver
 
 -- there is no such target among this many
 abbrev pub no_target : Named → ℕ → TokenFault ScriptKind
-no_target named targets = record { left = named.left; unit = None; kind = NoSuchTarget named.target targets }
+no_target named targets = record { place = named.at.target; kind = NoSuchTarget named.target targets }
 
 -- the target has this many channels, and no such one
 abbrev pub no_channel : Named → ℕ → TokenFault ScriptKind
-no_channel named channels = record { left = named.left - 1; unit = None; kind = NoSuchChannel named.channel named.target channels }
+no_channel named channels = record { place = named.at.channel; kind = NoSuchChannel named.channel named.target channels }
 
--- the target that a statement names is not there, or it is and its channel is not: told at T, or at C after it
+-- the target that a statement names is not there, or it is and its channel is not: told at T, or at C
 abbrev pub absence : List TargetScript → Named → Option (TokenFault ScriptKind)
 absence targets named =
     if nat_lt named.target (length targets)
@@ -60,20 +58,26 @@ absence targets named =
 abbrev pub Absence : Type 0
 Absence = ℕ × TokenFault ScriptKind
 
--- the number that the first of these words is, or this one if it is none
-abbrev pub first_number : List (List ℕ) → ℕ → ℕ
-first_number [] other = other
-first_number (word ∷ words) other = unwrap_or (number_of word) other
+-- what is on a line from a place on
+abbrev pub from_place : List ℕ → ℕ → List ℕ
+from_place line place = drop (length line - place) line
 
--- the kind of a fault with the number that its line names, in place of one cut to 32 bits: T is the second word of the line, and C the third
-abbrev pub with_number : List (List ℕ) → ScriptKind → ScriptKind
-with_number words (NoSuchTarget target targets) = NoSuchTarget (first_number (drop 1 words) target) targets
-with_number words (NoSuchChannel channel target channels) = NoSuchChannel (first_number (drop 2 words) channel) target channels
+-- the number that the first of these words is, or this one if it is none
+abbrev pub first_number : Lexemes → ℕ → ℕ
+first_number (Next place (Word word) words) other = unwrap_or (number_of word) other
+first_number (Next place (Quoted quoted) words) other = other
+first_number (Next place Bad words) other = other
+first_number (End place) other = other
+
+-- the kind of a fault with the number that these words begin with, in place of one cut to 32 bits
+abbrev pub with_number : Lexemes → ScriptKind → ScriptKind
+with_number words (NoSuchTarget target targets) = NoSuchTarget (first_number words target) targets
+with_number words (NoSuchChannel channel target channels) = NoSuchChannel (first_number words channel) target channels
 with_number words kind = kind
 
--- a fault with the number that its line names
+-- a fault with the number at its place
 abbrev pub numbered_fault : List ℕ → TokenFault ScriptKind → TokenFault ScriptKind
-numbered_fault line fault = record fault { kind = with_number (words_of line) fault.kind }
+numbered_fault line fault = record fault { kind = with_number (words_of (from_place line fault.place)) fault.kind }
 
 -- what is not there, as a fault on the line of this number and text
 abbrev pub absence_on : ℕ → TokenFault ScriptKind → List ℕ → ScriptFault
@@ -87,7 +91,7 @@ absence_fault text absence = absence_on absence.0 absence.1 (line_or_empty absen
 abbrev pub first_absence : List TargetScript → List Named → Option Absence
 first_absence targets [] = None
 first_absence targets (named ∷ more) =
-    elim (absence targets named) [ None ↦ first_absence targets more | Some fault ↦ Some (named.line, fault) ]
+    elim (absence targets named) [ None ↦ first_absence targets more | Some fault ↦ Some (named.at.line, fault) ]
 
 -- the patience that was read, or the usual one
 abbrev pub patience_of : Option ℕ → ℕ

@@ -7,8 +7,10 @@ use Rattle.sb_statements.specs.declared.statements.Statement.{Statement}
 use Rattle.sb_statements.specs.declared.statements.Statement.TheVariants.{Call, Store, Exchange, Load, Wait}
 use Rattle.sb_scripttext.specs.Openings.{can_place}
 use Rattle.sb_scripttext.specs.StartFaults.{start_fault}
-use Rattle.sb_text.specs.Steps.{◌>>=◌}
+use Rattle.sb_text.specs.Steps.{◌>>=◌, later}
+use Rattle.sb_text.specs.Tokens.{Lexemes, place_due}
 use Rattle.sb_scripttext.specs.declared.drafts.Named.{Named}
+use Rattle.sb_scripttext.specs.declared.drafts.StatementAt.{StatementAt}
 use Rattle.sb_scripttext.specs.declared.faults.ScriptKind.{ScriptKind}
 use Rattle.sb_scripttext.specs.declared.faults.ScriptKind.TheVariants.{UnknownWord, TooMany, BadStart}
 use Rattle.sb_scripttext.specs.declared.faults.ScriptLimit.TheVariants.{Openings, Targets, Threads, Statements}
@@ -86,16 +88,19 @@ abbrev pub in_last_thread : Statement → TargetScript → Result TargetScript S
 in_last_thread statement target =
     change_last (one_statement_more statement) target.threads >>= λ threads. Ok (record target { threads = threads })
 
--- the target and the channel that a statement on this line names, and how many tokens are left at the target: it is followed by C and W, and by
--- the values that the statement takes. A call names none
-abbrev pub named_by : ℕ → Statement → List Named
-named_by line (Call tag args) = []
-named_by line (Store target word value) = record { line = line; left = 4; target = target; channel = word.channel } ∷ []
-named_by line (Exchange target word from to) = record { line = line; left = 5; target = target; channel = word.channel } ∷ []
-named_by line (Load target word) = record { line = line; left = 3; target = target; channel = word.channel } ∷ []
-named_by line (Wait target word value most) = record { line = line; left = 5; target = target; channel = word.channel } ∷ []
+-- where the statement of a line of this number is, whose tokens after its first word are these: T is the first of them, if it names a target, and C the second
+abbrev pub statement_at : ℕ → Lexemes → StatementAt
+statement_at number tokens = record { line = number; target = place_due tokens; channel = place_due (later tokens) }
 
--- one more statement of the last thread, with what it names on this line
-abbrev pub with_statement : SoFar → ℕ → Statement → Result SoFar ScriptKind
-with_statement sofar line statement =
-    change_last (in_last_thread statement) sofar.targets >>= λ targets. Ok (record sofar { targets = targets; named = sofar.named ++ named_by line statement })
+-- the target and the channel that a statement there names. A call names none
+abbrev pub named_by : StatementAt → Statement → List Named
+named_by at (Call tag args) = []
+named_by at (Store target word value) = record { at = at; target = target; channel = word.channel } ∷ []
+named_by at (Exchange target word from to) = record { at = at; target = target; channel = word.channel } ∷ []
+named_by at (Load target word) = record { at = at; target = target; channel = word.channel } ∷ []
+named_by at (Wait target word value most) = record { at = at; target = target; channel = word.channel } ∷ []
+
+-- one more statement of the last thread, with what it names there
+abbrev pub with_statement : SoFar → StatementAt → Statement → Result SoFar ScriptKind
+with_statement sofar at statement =
+    change_last (in_last_thread statement) sofar.targets >>= λ targets. Ok (record sofar { targets = targets; named = sofar.named ++ named_by at statement })

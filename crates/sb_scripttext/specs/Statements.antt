@@ -11,7 +11,7 @@ use Rattle.sb_text.specs.Steps.{◌>>=◌, at_token, or_fault, Read, word_at, en
 use Rattle.sb_scripttext.specs.declared.faults.ScriptKind.{ScriptKind}
 use Rattle.sb_scripttext.specs.declared.faults.ScriptKind.TheVariants.{UnknownWord, WrongArgs, BadNumber, NoSuchWord}
 use Rattle.sb_text.specs.Numbers.{number_of}
-use Rattle.sb_text.specs.Tokens.{Lexeme}
+use Rattle.sb_text.specs.Tokens.{Lexemes}
 use Rattle.sb_text.specs.declared.refusals.TokenFault.{TokenFault}
 use Rattle.sb_text.specs.declared.refusals.WordFault.TheVariants.{Missing, Extra, Broken}
 
@@ -24,11 +24,11 @@ abbrev pub short : ℕ → ℕ
 short n = if nat_le n most_32 then n else most_32
 
 -- V: a value
-abbrev pub value_at : List Lexeme → Read ℕ ScriptKind
+abbrev pub value_at : Lexemes → Read ℕ ScriptKind
 value_at tokens = number_at BadNumber (WrongArgs Missing) tokens
 
 -- T or C: a target or a channel
-unfoldable pub short_at : List Lexeme → Read ℕ ScriptKind
+unfoldable pub short_at : Lexemes → Read ℕ ScriptKind
 short_at tokens = value_at tokens >>= λ n. Ok (short n.0, n.1)
 
 -- the place of block word i in its channel
@@ -40,14 +40,14 @@ abbrev pub place_of : List ℕ → Result ℕ ScriptKind
 place_of w = if is_word (codes "state") w then Ok 0 else (or_fault BadNumber (number_of w) >>= λ i. block_place i)
 
 -- W: the place of a word in its channel
-unfoldable pub place_at : List Lexeme → Read ℕ ScriptKind
+unfoldable pub place_at : Lexemes → Read ℕ ScriptKind
 place_at tokens = do
   word ← word_at BadNumber (UnknownWord Broken) (WrongArgs Missing) tokens
   place ← at_token tokens (place_of word.0)
   Ok (place, word.1)
 
 -- T C W: a target, and a word of one of its channels
-unfoldable pub target_word_at : List Lexeme → Read (ℕ × words.Word) ScriptKind
+unfoldable pub target_word_at : Lexemes → Read (ℕ × words.Word) ScriptKind
 target_word_at tokens = do
   target ← short_at tokens
   channel ← short_at target.1
@@ -55,7 +55,7 @@ target_word_at tokens = do
   Ok ((target.0, record { channel = channel.0; at = place.0 }), place.1)
 
 -- `store T C W V`, after its first word
-unfoldable pub store : List Lexeme → Result Statement (TokenFault ScriptKind)
+unfoldable pub store : Lexemes → Result Statement (TokenFault ScriptKind)
 store tokens = do
   word ← target_word_at tokens
   value ← value_at word.1
@@ -63,7 +63,7 @@ store tokens = do
   Ok (Store word.0.0 word.0.1 value.0)
 
 -- `exchange T C W FROM TO`, after its first word
-unfoldable pub exchange : List Lexeme → Result Statement (TokenFault ScriptKind)
+unfoldable pub exchange : Lexemes → Result Statement (TokenFault ScriptKind)
 exchange tokens = do
   word ← target_word_at tokens
   from ← value_at word.1
@@ -72,14 +72,14 @@ exchange tokens = do
   Ok (Exchange word.0.0 word.0.1 from.0 to.0)
 
 -- `load T C W`, after its first word
-unfoldable pub load : List Lexeme → Result Statement (TokenFault ScriptKind)
+unfoldable pub load : Lexemes → Result Statement (TokenFault ScriptKind)
 load tokens = do
   word ← target_word_at tokens
   end ← end_at (WrongArgs Extra) (UnknownWord Broken) word.1
   Ok (Load word.0.0 word.0.1)
 
 -- `wait T C W V N`, after its first word; whether N is too small or too large is looked at last
-unfoldable pub wait : List Lexeme → Result Statement (TokenFault ScriptKind)
+unfoldable pub wait : Lexemes → Result Statement (TokenFault ScriptKind)
 wait tokens = do
   word ← target_word_at tokens
   value ← value_at word.1

@@ -15,7 +15,7 @@ use sb_text::{Tokens, WordFault, end_at, or_fails, word_due};
 use std::alloc::Global;
 
 /// The greatest number of 32 bits.
-pub(crate) const MOST_32: u64 = 0xFFFF_FFFF;
+pub(crate) const MAX_32: u64 = 0xFFFF_FFFF;
 
 // The faults of an argument that is not a string, that is one, and that is not there.
 const UNQUOTED: ScriptKind = WrongArgs(WordFault::Unquoted);
@@ -43,7 +43,7 @@ fn arg_at(alloc: Global, kind: ParamKind, tokens: &mut Tokens) -> Result<Arg, Li
     match kind {
         ParamKind::Text => Ok(Arg::Str(string_at(alloc, UNQUOTED, MISSING, tokens)?)),
         ParamKind::Name => Ok(Arg::Str(name_at(alloc, UNQUOTED, MISSING, tokens)?)),
-        ParamKind::Num => Ok(Arg::Num(number_within(0, MOST_32, QUOTED, MISSING, tokens)?)),
+        ParamKind::Num => Ok(Arg::Num(number_within(0, MAX_32, QUOTED, MISSING, tokens)?)),
         ParamKind::Handle => Ok(Arg::Num(number_at(QUOTED, MISSING, tokens)?)),
     }
 }
@@ -78,15 +78,18 @@ fn fitting(tag: CallTag, args: Args) -> Result<Statement, KindRefused>
 
 /// `call CALL ARG ..`, after its first word.
 #[tactic(auto, unfolding(crate::specs::Arguments::call))]
-pub(crate) fn call(alloc: Global, tokens: &mut Tokens) -> Result<Statement, LineRefused>
-    ensures { Gives (call tokens.old) result }
+pub(crate) fn call(
+    alloc: Global,
+    line: &Tokens,
+    tokens: &mut Tokens,
+) -> Result<Statement, LineRefused>
+    ensures { Gives (call line.now tokens.old) result }
 {
-    let others = tokens.copy();
     let tag = tag_at(tokens)?;
     let args = args_at(alloc, shape(tag), tokens)?;
     end_at(WrongArgs(WordFault::Extra), BROKEN, tokens)?;
     match fitting(tag, args) {
         Ok(statement) => Ok(statement),
-        Err(refused) => Err(others.refuse_first(refused)),
+        Err(refused) => Err(line.refuse(refused)),
     }
 }

@@ -15,7 +15,7 @@ use sb_base::{Items, NoMemory};
 use sb_call::ShortName;
 use sb_kernel::Kernel;
 use sb_statements::{
-    MOST_START_LINES, MOST_STATEMENTS, MOST_TARGETS, MOST_THREADS, Script, StartLine, Statement,
+    MAX_START_LINES, MAX_STATEMENTS, MAX_TARGETS, MAX_THREADS, Script, StartLine, Statement,
     Statements, TargetScript, Targets, Threads, Word,
 };
 use sb_text::WordFault;
@@ -36,13 +36,22 @@ pub(crate) struct Heading {
     pub(crate) channels: u32,
 }
 
+/// Where a statement is. A place is the number of bytes from there to the line's end.
+#[derive(Clone, Copy)]
+pub(crate) struct StatementAt {
+    /// Its line.
+    pub(crate) line: u32,
+    /// The place of the target that it names, if it names one.
+    pub(crate) target: usize,
+    /// The place of the channel that it names, if it names one.
+    pub(crate) channel: usize,
+}
+
 /// A target and a channel that a statement names.
 #[derive(Clone, Copy)]
 pub(crate) struct Named {
-    /// The line of the statement.
-    pub(crate) line: u32,
-    /// The number of tokens that are left at the target.
-    pub(crate) left: usize,
+    /// Where the statement is.
+    pub(crate) at: StatementAt,
     /// The target, from 0.
     pub(crate) target: u32,
     /// The channel, from 0.
@@ -54,32 +63,29 @@ pub(crate) type NamedWords = Items<Named>;
 
 fn add_word(
     named: &mut NamedWords,
-    line: u32,
-    left: usize,
+    at: StatementAt,
     target: u32,
     word: Word,
 ) -> Result<(), NoMemory>
-    ensures { OnOk result (named.new ≡ named.old ++ record { line = line; left = left; target = target; channel = word.channel } ∷ []) }
+    ensures { OnOk result (named.new ≡ named.old ++ record { at = at; target = target; channel = word.channel } ∷ []) }
 {
     named.push(Named {
-        line,
-        left,
+        at,
         target,
         channel: word.channel,
     })
 }
 
-// With what a statement on a line names.
-fn add_named(named: &mut NamedWords, line: u32, statement: &Statement) -> Result<(), NoMemory>
-    ensures { OnOk result (named.new ≡ named.old ++ named_by line statement.now) }
+// With what a statement names.
+fn add_named(named: &mut NamedWords, at: StatementAt, statement: &Statement) -> Result<(), NoMemory>
+    ensures { OnOk result (named.new ≡ named.old ++ named_by at statement.now) }
 {
     match statement {
         Statement::Call { .. } => Ok(()),
-        Statement::Load { target, word } => add_word(named, line, 3, *target, *word),
-        Statement::Store { target, word, .. } => add_word(named, line, 4, *target, *word),
-        Statement::Exchange { target, word, .. } | Statement::Wait { target, word, .. } => {
-            add_word(named, line, 5, *target, *word)
-        }
+        Statement::Load { target, word }
+        | Statement::Store { target, word, .. }
+        | Statement::Exchange { target, word, .. }
+        | Statement::Wait { target, word, .. } => add_word(named, at, *target, *word),
     }
 }
 
@@ -234,7 +240,7 @@ impl Draft {
         ensures { result ≡ nat_lt (length self.now.targets) most_targets }
     {
         match &self.last {
-            Some(_) => self.before.len() < MOST_TARGETS - 1,
+            Some(_) => self.before.len() < MAX_TARGETS - 1,
             None => true,
         }
     }
@@ -251,7 +257,7 @@ impl Draft {
         requires name { is_named line ≡ true }
         ensures { Becomes (with_start self.old line) result self.new }
     {
-        if self.start.len() >= MOST_START_LINES {
+        if self.start.len() >= MAX_START_LINES {
             if self.start.can_place(&line) {
                 return Err(KindRefused::Fault(ScriptKind::TooMany(ScriptLimit::Openings)));
             }
@@ -287,7 +293,7 @@ impl Draft {
             return Err(KindRefused::Fault(ScriptKind::UnknownWord(WordFault::Misplaced)));
         }
         if self.in_thread {
-            if self.threads.len() >= MOST_THREADS - 1 {
+            if self.threads.len() >= MAX_THREADS - 1 {
                 return Err(KindRefused::Fault(ScriptKind::TooMany(ScriptLimit::Threads)));
             }
             let ended = mem::replace(&mut self.statements, Statements::new(Vec::new(alloc)));
@@ -297,21 +303,21 @@ impl Draft {
         Ok(())
     }
 
-    /// One more statement of the last thread, on this line. After an error the draft is unspecified.
+    /// One more statement of the last thread. After an error the draft is unspecified.
     pub(crate) fn add_statement(
         &mut self,
-        line: u32,
+        at: StatementAt,
         statement: Statement,
     ) -> Result<(), KindRefused>
-        ensures { Becomes (with_statement self.old line statement) result self.new }
+        ensures { Becomes (with_statement self.old at statement) result self.new }
     {
         if !self.in_thread {
             return Err(KindRefused::Fault(ScriptKind::UnknownWord(WordFault::Misplaced)));
         }
-        if self.statements.len() >= MOST_STATEMENTS {
+        if self.statements.len() >= MAX_STATEMENTS {
             return Err(KindRefused::Fault(ScriptKind::TooMany(ScriptLimit::Statements)));
         }
-        add_named(&mut self.named, line, &statement)?;
+        add_named(&mut self.named, at, &statement)?;
         self.statements.push(statement)?;
         Ok(())
     }

@@ -31,7 +31,7 @@ pub use schedule_faults::{ScheduleFault, ScheduleKind, ScheduleRefused};
 pub use schedule_laws::{
     first_schedule_faults_stay, read_schedules_are_bounded, skipped_schedule_lines_count_alone,
 };
-pub use schedule_lines::{MOST_ROUNDS, MOST_STEPS};
+pub use schedule_lines::{MAX_ROUNDS, MAX_STEPS};
 pub use schedule_printing_laws::{written_schedules_are_read, written_schedules_are_short};
 pub use schedule_texts::read_schedule;
 pub use script_texts::read_script;

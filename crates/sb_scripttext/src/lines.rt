@@ -5,6 +5,7 @@ ghost use Rattle.sb_rule.specs.WellMade.{is_named};
 ghost use Rattle.sb_scripttext.specs.Arguments.{call};
 ghost use Rattle.sb_scripttext.specs.Building.{target_script};
 ghost use Rattle.sb_scripttext.specs.Lines.{patience, new_name, new_name_at, policy_number, policy_at, heading, set_patience, add_target, add_thread, is_opening_word, is_statement_word, is_line_word, first_word_fault, refused_start, start_line, statement_line, plain_line, line_of};
+ghost use Rattle.sb_scripttext.specs.SoFar.{statement_at};
 ghost use Rattle.sb_scripttext.specs.Openings.{dir, file, key, event};
 ghost use Rattle.sb_scripttext.specs.Statements.{store, exchange, load, wait};
 ghost use Rattle.sb_base.specs.Refusals.{Gives};
@@ -12,8 +13,8 @@ ghost use Rattle.sb_base.specs.Refusals.{GivesAs};
 ghost use Rattle.sb_text.specs.Steps.{Reads, Becomes};
 ghost use Rattle.sb_text.specs.Tokens.{tokens_of};
 
-use crate::arguments::{MOST_32, call};
-use crate::drafts::{Draft, Heading};
+use crate::arguments::{MAX_32, call};
+use crate::drafts::{Draft, Heading, StatementAt};
 use crate::faults::ScriptKind::{BadNumber, BadStart, NoSuchPolicy, SameName, UnknownWord};
 use crate::faults::{KindRefused, LineRefused, ScriptKind};
 use crate::openings::{dir, event, file, key};
@@ -22,7 +23,7 @@ use crate::steps::{BROKEN, at_line_end, number_within};
 use sb_base::is_word;
 use sb_call::ShortName;
 use sb_rule::Policy;
-use sb_statements::{MOST_CHANNELS, MOST_PATIENCE, StartLine, Statement};
+use sb_statements::{MAX_CHANNELS, MAX_PATIENCE, StartLine, Statement};
 use sb_text::{Line, Tokens, WordFault, end_at, or_fails, word_at};
 use std::alloc::Global;
 
@@ -40,7 +41,7 @@ const MISPLACED: ScriptKind = UnknownWord(WordFault::Misplaced);
 fn patience(tokens: &mut Tokens) -> Result<u32, LineRefused>
     ensures { Gives (patience tokens.old) result }
 {
-    let patience = number_within(1, u64::from(MOST_PATIENCE), BadNumber, MISSING, tokens)?;
+    let patience = number_within(1, u64::from(MAX_PATIENCE), BadNumber, MISSING, tokens)?;
     at_line_end(EXTRA, patience as u32, tokens)
 }
 
@@ -87,7 +88,7 @@ fn policy_place(name: &[u8], policies: &[Policy]) -> Option<usize>
 fn policy_number(place: usize) -> Result<u32, KindRefused>
     ensures { Gives (policy_number place) result }
 {
-    if place as u64 <= MOST_32 {
+    if place as u64 <= MAX_32 {
         Ok(place as u32)
     } else {
         Err(KindRefused::Fault(NoSuchPolicy))
@@ -115,7 +116,7 @@ fn heading(policies: &[Policy], draft: &Draft, tokens: &mut Tokens) -> Result<He
 {
     let name = new_name_at(draft, tokens)?;
     let policy = policy_at(policies, tokens)?;
-    let channels = number_within(1, u64::from(MOST_CHANNELS), BadNumber, MISSING, tokens)?;
+    let channels = number_within(1, u64::from(MAX_CHANNELS), BadNumber, MISSING, tokens)?;
     end_at(EXTRA, BROKEN, tokens)?;
     Ok(Heading {
         name,
@@ -126,14 +127,14 @@ fn heading(policies: &[Policy], draft: &Draft, tokens: &mut Tokens) -> Result<He
 
 // A `patience` line, before the first target and once.
 #[tactic(auto, unfolding(crate::specs::Lines::set_patience))]
-fn set_patience(draft: &mut Draft, tokens: &mut Tokens) -> Result<(), LineRefused>
-    ensures { Becomes (set_patience draft.old tokens.old) result draft.new }
+fn set_patience(draft: &mut Draft, line: &Tokens, tokens: &mut Tokens) -> Result<(), LineRefused>
+    ensures { Becomes (set_patience draft.old line.now tokens.old) result draft.new }
 {
     if draft.has_patience() {
-        return Err(tokens.fail_first(UnknownWord(WordFault::Repeated)));
+        return Err(line.fail(UnknownWord(WordFault::Repeated)));
     }
     if !draft.is_opening() {
-        return Err(tokens.fail_first(MISPLACED));
+        return Err(line.fail(MISPLACED));
     }
     let patience = patience(tokens)?;
     draft.add_patience(patience);
@@ -146,30 +147,35 @@ fn add_target(
     alloc: Global,
     policies: &[Policy],
     draft: &mut Draft,
+    line: &Tokens,
     tokens: &mut Tokens,
 ) -> Result<(), LineRefused>
-    ensures { Becomes (add_target policies.now draft.old tokens.old) result draft.new }
+    ensures { Becomes (add_target policies.now draft.old line.now tokens.old) result draft.new }
 {
-    let others = tokens.copy();
     let heading = heading(policies, draft, tokens)?;
     match draft.add_target(alloc, heading) {
         Ok(()) => Ok(()),
-        Err(refused) => Err(others.refuse_first(refused)),
+        Err(refused) => Err(line.refuse(refused)),
     }
 }
 
 // A `thread` line, after a target.
 #[tactic(auto, unfolding(crate::specs::Lines::add_thread))]
-fn add_thread(alloc: Global, draft: &mut Draft, tokens: &mut Tokens) -> Result<(), LineRefused>
-    ensures { Becomes (add_thread draft.old tokens.old) result draft.new }
+fn add_thread(
+    alloc: Global,
+    draft: &mut Draft,
+    line: &Tokens,
+    tokens: &Tokens,
+) -> Result<(), LineRefused>
+    ensures { Becomes (add_thread draft.old line.now tokens.now) result draft.new }
 {
     if draft.is_opening() {
-        return Err(tokens.fail_first(MISPLACED));
+        return Err(line.fail(MISPLACED));
     }
     end_at(EXTRA, BROKEN, tokens)?;
     match draft.add_thread(alloc) {
         Ok(()) => Ok(()),
-        Err(refused) => Err(tokens.refuse_first(refused)),
+        Err(refused) => Err(line.refuse(refused)),
     }
 }
 
@@ -213,19 +219,24 @@ fn first_word_fault(word: &[u8]) -> ScriptKind
 }
 
 // The refusal of an opening line: a bad start is told at the name, and all else at the first word.
-fn refuse_start(others: &Tokens, refused: KindRefused) -> LineRefused
-    ensures { result ≡ refused_start others.now refused }
+fn refuse_start(line: &Tokens, tokens: &Tokens, refused: KindRefused) -> LineRefused
+    ensures { result ≡ refused_start line.now tokens.now refused }
 {
     match refused {
-        KindRefused::Fault(BadStart(why)) => others.fail(BadStart(why)),
-        refused => others.refuse_first(refused),
+        KindRefused::Fault(BadStart(why)) => tokens.fail(BadStart(why)),
+        refused => line.refuse(refused),
     }
 }
 
 // The object of an opening line that begins with this word.
 #[tactic(auto, unfolding(crate::specs::Lines::start_line))]
-fn start_line(alloc: Global, word: &[u8], tokens: &mut Tokens) -> Result<StartLine, LineRefused>
-    ensures { Gives (start_line word.now tokens.old) result }
+fn start_line(
+    alloc: Global,
+    word: &[u8],
+    line: &Tokens,
+    tokens: &mut Tokens,
+) -> Result<StartLine, LineRefused>
+    ensures { Gives (start_line word.now line.now tokens.old) result }
 {
     if is_word(word, b"dir") {
         dir(alloc, tokens)
@@ -236,17 +247,22 @@ fn start_line(alloc: Global, word: &[u8], tokens: &mut Tokens) -> Result<StartLi
     } else if is_word(word, b"event") {
         event(alloc, tokens)
     } else {
-        Err(tokens.fail_first(first_word_fault(word)))
+        Err(line.fail(first_word_fault(word)))
     }
 }
 
 // The statement of a line that begins with this word.
 #[tactic(auto, unfolding(crate::specs::Lines::statement_line))]
-fn statement_line(alloc: Global, word: &[u8], tokens: &mut Tokens) -> Result<Statement, LineRefused>
-    ensures { Gives (statement_line word.now tokens.old) result }
+fn statement_line(
+    alloc: Global,
+    word: &[u8],
+    line: &Tokens,
+    tokens: &mut Tokens,
+) -> Result<Statement, LineRefused>
+    ensures { Gives (statement_line word.now line.now tokens.old) result }
 {
     if is_word(word, b"call") {
-        call(alloc, tokens)
+        call(alloc, line, tokens)
     } else if is_word(word, b"store") {
         store(tokens)
     } else if is_word(word, b"exchange") {
@@ -256,7 +272,20 @@ fn statement_line(alloc: Global, word: &[u8], tokens: &mut Tokens) -> Result<Sta
     } else if is_word(word, b"wait") {
         wait(tokens)
     } else {
-        Err(tokens.fail_first(first_word_fault(word)))
+        Err(line.fail(first_word_fault(word)))
+    }
+}
+
+// Where the statement of a line is, whose tokens after its first word are these.
+fn statement_at(number: u32, tokens: &Tokens) -> StatementAt
+    ensures { result ≡ statement_at number tokens.now }
+{
+    let mut after = tokens.copy();
+    after.pass();
+    StatementAt {
+        line: number,
+        target: tokens.place(),
+        channel: after.place(),
     }
 }
 
@@ -266,26 +295,28 @@ fn plain_line(
     alloc: Global,
     word: &[u8],
     draft: &mut Draft,
-    line: u32,
+    number: u32,
+    line: &Tokens,
     tokens: &mut Tokens,
 ) -> Result<(), LineRefused>
-    ensures { Becomes (plain_line word.now draft.old line tokens.old) result draft.new }
+    ensures { Becomes (plain_line word.now draft.old number line.now tokens.old) result draft.new }
 {
     let others = tokens.copy();
     if draft.is_in_thread() {
-        let statement = statement_line(alloc, word, tokens)?;
-        return match draft.add_statement(line, statement) {
+        let at = statement_at(number, tokens);
+        let statement = statement_line(alloc, word, line, tokens)?;
+        return match draft.add_statement(at, statement) {
             Ok(()) => Ok(()),
-            Err(refused) => Err(others.refuse_first(refused)),
+            Err(refused) => Err(line.refuse(refused)),
         };
     }
     if !draft.is_opening() {
-        return Err(others.fail_first(first_word_fault(word)));
+        return Err(line.fail(first_word_fault(word)));
     }
-    let start = start_line(alloc, word, tokens)?;
+    let start = start_line(alloc, word, line, tokens)?;
     match draft.add_start(alloc, start) {
         Ok(()) => Ok(()),
-        Err(refused) => Err(refuse_start(&others, refused)),
+        Err(refused) => Err(refuse_start(line, &others, refused)),
     }
 }
 
@@ -299,16 +330,17 @@ pub(crate) fn line_of(
 ) -> Result<(), LineRefused>
     ensures { Becomes (line_of policies.now draft.old line.now.number (tokens_of line.now.text.now)) result draft.new }
 {
-    let mut tokens = line.tokens();
+    let first = line.tokens();
+    let mut tokens = first.copy();
     let word = word_at(QUOTED, BROKEN, MISSING, &mut tokens)?;
     if is_word(word, b"patience") {
-        return set_patience(draft, &mut tokens);
+        return set_patience(draft, &first, &mut tokens);
     }
     if is_word(word, b"target") {
-        return add_target(alloc, policies, draft, &mut tokens);
+        return add_target(alloc, policies, draft, &first, &mut tokens);
     }
     if is_word(word, b"thread") {
-        return add_thread(alloc, draft, &mut tokens);
+        return add_thread(alloc, draft, &first, &tokens);
     }
-    plain_line(alloc, word, draft, line.number, &mut tokens)
+    plain_line(alloc, word, draft, line.number, &first, &mut tokens)
 }

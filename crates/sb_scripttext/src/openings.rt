@@ -3,7 +3,7 @@ ghost use Rattle.std.specs.Prelude.{◌≡◌};
 ghost use Rattle.sb_scripttext.specs.Openings.{dir, file, key, event};
 ghost use Rattle.sb_base.specs.Refusals.{Gives};
 
-use crate::arguments::MOST_32;
+use crate::arguments::MAX_32;
 use crate::faults::ScriptKind::{BadNumber, UnknownWord};
 use crate::faults::{LineRefused, ScriptKind};
 use crate::steps::{at_line_end, name_at, number_within};
@@ -33,7 +33,7 @@ pub(crate) fn file(alloc: Global, tokens: &mut Tokens) -> Result<StartLine, Line
     ensures { Gives (file tokens.old) result }
 {
     let name = name_at(alloc, UNQUOTED, MISSING, tokens)?;
-    let attributes = number_within(0, MOST_32, BadNumber, MISSING, tokens)?;
+    let attributes = number_within(0, MAX_32, BadNumber, MISSING, tokens)?;
     at_line_end(EXTRA, StartLine::File { name, attributes }, tokens)
 }
 

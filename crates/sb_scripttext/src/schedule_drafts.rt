@@ -7,7 +7,7 @@ ghost use Rattle.sb_text.specs.Steps.{Becomes};
 
 use crate::schedule_faults::ScheduleKind::{NoRounds, TooMany};
 use crate::schedule_faults::{KindRefused, ScheduleRefused};
-use crate::schedule_lines::MOST_STEPS;
+use crate::schedule_lines::MAX_STEPS;
 use sb_statements::{Actor, Schedule, Steps};
 use sb_text::LineFault;
 use std::alloc::Global;
@@ -59,7 +59,7 @@ impl Draft {
         ensures { Becomes (with_step self.old (actor, count)) result self.new }
     {
         let sum = self.count + count;
-        if sum > MOST_STEPS {
+        if sum > MAX_STEPS {
             return Err(KindRefused::Fault(TooMany));
         }
         self.steps.push((actor, count))?;

@@ -1,10 +1,12 @@
 // Reading the lines below the first.
-ghost use Rattle.std.specs.Prelude.{◌≡◌, ◌∷◌, ◌≤◌, IfOk};
+ghost use Rattle.std.specs.Prelude.{◌≡◌, ◌≤◌, IfOk};
 ghost use Rattle.sb_scripttext.specs.ScheduleDrafts.{has_rounds};
 ghost use Rattle.sb_scripttext.specs.ScheduleLimits.{most_steps};
-ghost use Rattle.sb_scripttext.specs.ScheduleLines.{within, last_number, count_at, step, add_steps, rounds, line_with, line_of};
+ghost use Rattle.sb_scripttext.specs.ScheduleLines.{any_word_at, within, last_number, count_at, step, last_word, add_steps, line_by, line_of};
 ghost use Rattle.sb_base.specs.Refusals.{Gives};
-ghost use Rattle.sb_text.specs.Steps.{Becomes};
+ghost use Rattle.sb_text.specs.Steps.{Becomes, ReadsAs, end_at};
+ghost use Rattle.sb_scripttext.specs.declared.schedule_faults.ScheduleKind.TheVariants.{UnknownWord};
+ghost use Rattle.sb_text.specs.declared.refusals.WordFault.TheVariants.{Broken, Extra};
 
 use crate::actors::actor_of;
 use crate::schedule_drafts::Draft;
@@ -12,13 +14,13 @@ use crate::schedule_faults::ScheduleKind::{BadNumber, UnknownActor, UnknownWord}
 use crate::schedule_faults::{KindRefused, LineRefused};
 use sb_base::is_word;
 use sb_statements::{Actor, Script};
-use sb_text::{TokenFault, WordFault, Words, number_of};
+use sb_text::{WordFault, Words, number_of};
 
 /// The most steps of a schedule.
-pub const MOST_STEPS: u32 = 100_000;
+pub const MAX_STEPS: u32 = 100_000;
 
 /// The most rounds of a schedule.
-pub const MOST_ROUNDS: u32 = 20_000_000;
+pub const MAX_ROUNDS: u32 = 20_000_000;
 
 // N from `lo` to `hi`.
 fn within(lo: u32, hi: u32, word: &[u8]) -> Result<u32, KindRefused>
@@ -31,21 +33,30 @@ fn within(lo: u32, hi: u32, word: &[u8]) -> Result<u32, KindRefused>
     }
 }
 
-// N from `lo` to `hi`, the last word of its line, where these words are due.
-fn last_number(
-    lo: u32,
-    hi: u32,
-    due: &Words,
-    word: &[u8],
-    words: &Words,
-) -> Result<u32, LineRefused>
-    requires { due.now ≡ word.now ∷ words.now }
-    ensures number { Gives (last_number lo hi word.now words.now) result }
+// A word.
+fn any_word<'a>(words: &mut Words<'a>) -> Result<&'a [u8], LineRefused>
+    ensures { ReadsAs (λ word. word.now) (any_word_at words.old) result words.new }
+{
+    words.word(UnknownWord(WordFault::Missing))
+}
+
+// The line ends here.
+fn line_end(words: &Words) -> Result<(), LineRefused>
+    ensures { Gives (end_at (UnknownWord Extra) (UnknownWord Broken) words.now) result }
+{
+    words.expect_end(UnknownWord(WordFault::Extra))
+}
+
+// N from `lo` to `hi`, the last word of its line.
+fn last_number(lo: u32, hi: u32, due: &Words) -> Result<u32, LineRefused>
+    ensures number { Gives (last_number lo hi due.now) result }
     ensures most { IfOk result (λ n. n ≤ hi) }
 {
+    let mut words = due.copy();
+    let word = any_word(&mut words)?;
     match within(lo, hi, word) {
         Ok(count) => {
-            words.expect_end(UnknownWord(WordFault::Extra))?;
+            line_end(&words)?;
             Ok(count)
         }
         Err(refused) => Err(due.refuse(refused)),
@@ -57,11 +68,10 @@ fn count_at(due: &Words) -> Result<u32, LineRefused>
     ensures count { Gives (count_at due.now) result }
     ensures most { IfOk result (λ n. n ≤ most_steps) }
 {
-    let mut words = due.copy();
-    match words.next_word() {
-        Some(word) => last_number(1, MOST_STEPS, due, word, &words),
-        None => Ok(1),
+    if due.is_end() {
+        return Ok(1);
     }
+    last_number(1, MAX_STEPS, due)
 }
 
 // `step ACTOR` or `step ACTOR N`, after its first word.
@@ -70,14 +80,21 @@ fn step(script: &Script, due: &Words) -> Result<(Actor, u32), LineRefused>
     ensures most { IfOk result (λ s. s.1 ≤ most_steps) }
 {
     let mut words = due.copy();
-    let Some(word) = words.next_word() else {
-        return Err(due.fail(UnknownWord(WordFault::Missing)));
-    };
+    let word = any_word(&mut words)?;
     let Some(actor) = actor_of(script, word) else {
         return Err(due.fail(UnknownActor));
     };
     let count = count_at(&words)?;
     Ok((actor, count))
+}
+
+// The last word of such a line, N or the actor.
+fn last_word<'a>(words: &Words<'a>) -> Words<'a>
+    ensures { result ≡ last_word words.now }
+{
+    let mut later = words.copy();
+    later.pass();
+    if later.is_end() { words.copy() } else { later }
 }
 
 // The draft with such steps. That they are too many is told at the last word of the line.
@@ -87,40 +104,26 @@ fn add_steps(script: &Script, draft: &mut Draft, words: &Words) -> Result<(), Li
     let (actor, count) = step(script, words)?;
     match draft.add_step(actor, count) {
         Ok(()) => Ok(()),
-        Err(KindRefused::Fault(kind)) => Err(LineRefused::Fault(TokenFault {
-            left: 1,
-            unit: None,
-            kind,
-        })),
-        Err(KindRefused::NoMemory) => Err(LineRefused::NoMemory),
+        Err(refused) => Err(last_word(words).refuse(refused)),
     }
 }
 
-// `rounds N`, after its first word.
-fn rounds(due: &Words) -> Result<u32, LineRefused>
-    ensures { Gives (rounds due.now) result }
-{
-    let mut words = due.copy();
-    match words.next_word() {
-        Some(word) => last_number(0, MOST_ROUNDS, due, word, &words),
-        None => Err(due.fail(UnknownWord(WordFault::Missing))),
-    }
-}
-
-// What a line of words adds.
+// What a line that begins with this word adds.
 #[tactic(auto, unfolding(crate::specs::ScheduleLines::line_by))]
-fn line_with(script: &Script, draft: &mut Draft, line: &Words) -> Result<(), LineRefused>
-    ensures { Becomes (line_with script.now.targets draft.old line.now) result draft.new }
+fn line_by(
+    script: &Script,
+    draft: &mut Draft,
+    first: &[u8],
+    line: &Words,
+    words: &Words,
+) -> Result<(), LineRefused>
+    ensures { Becomes (line_by script.now.targets draft.old first.now line.now words.now) result draft.new }
 {
-    let mut words = line.copy();
-    let Some(first) = words.next_word() else {
-        return Err(line.fail(UnknownWord(WordFault::Missing)));
-    };
     if is_word(first, b"step") {
-        return add_steps(script, draft, &words);
+        return add_steps(script, draft, words);
     }
     if is_word(first, b"rounds") {
-        let count = rounds(&words)?;
+        let count = last_number(0, MAX_ROUNDS, words)?;
         draft.set_rounds(count);
         return Ok(());
     }
@@ -129,11 +132,13 @@ fn line_with(script: &Script, draft: &mut Draft, line: &Words) -> Result<(), Lin
 
 /// What a line adds to what was read so far. After an error the draft is unspecified.
 #[tactic(auto, unfolding(crate::specs::ScheduleLines::line_of))]
-pub(crate) fn line_of(script: &Script, draft: &mut Draft, words: &Words) -> Result<(), LineRefused>
-    ensures { Becomes (line_of script.now.targets draft.old words.now) result draft.new }
+pub(crate) fn line_of(script: &Script, draft: &mut Draft, line: &Words) -> Result<(), LineRefused>
+    ensures { Becomes (line_of script.now.targets draft.old line.now) result draft.new }
 {
     if draft.has_rounds() {
-        return Err(words.fail(UnknownWord(WordFault::Misplaced)));
+        return Err(line.fail(UnknownWord(WordFault::Misplaced)));
     }
-    line_with(script, draft, words)
+    let mut words = line.copy();
+    let first = any_word(&mut words)?;
+    line_by(script, draft, first, line, &words)
 }

@@ -7,7 +7,7 @@ ghost use Rattle.sb_scripttext.specs.ScheduleLimits.{most_steps, most_rounds};
 ghost use Rattle.sb_scripttext.specs.ScheduleTexts.{grammar, reading};
 ghost use Rattle.sb_scripttext.specs.declared.schedule_faults.ScheduleKind.TheVariants.{UnknownWord};
 ghost use Rattle.sb_base.specs.Refusals.{Gives};
-ghost use Rattle.sb_text.specs.Spots.{by_words};
+ghost use Rattle.sb_text.specs.Tokens.{by_words};
 ghost use Rattle.sb_text.specs.declared.refusals.WordFault.TheVariants.{NoVersion};
 
 use crate::schedule_drafts::Draft;

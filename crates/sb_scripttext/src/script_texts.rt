@@ -2,12 +2,11 @@
 ghost use Rattle.std.specs.Prelude.{◌≡◌, ◌+◌, ◌<◌, ◌≤◌, ◌^◌, drop, length, IfOk};
 ghost use Rattle.sb_kernel.specs.Openings.{opening};
 ghost use Rattle.sb_scripttext.specs.SoFar.{nothing};
-ghost use Rattle.sb_scripttext.specs.ScriptTexts.{grammar, absence, first_number, with_number, absence_on, first_absence, finished, reading};
+ghost use Rattle.sb_scripttext.specs.ScriptTexts.{grammar, absence, first_number, from_place, with_number, absence_on, first_absence, finished, reading};
 ghost use Rattle.sb_text.specs.MissingTexts.{line_or_empty};
 ghost use Rattle.sb_scripttext.specs.declared.faults.ScriptKind.TheVariants.{UnknownWord};
 ghost use Rattle.sb_base.specs.Refusals.{GivesAs};
-ghost use Rattle.sb_text.specs.Spots.{by_tokens};
-ghost use Rattle.sb_text.specs.Words.{words_of};
+ghost use Rattle.sb_text.specs.Tokens.{by_tokens, words_of};
 ghost use Rattle.sb_text.specs.declared.refusals.WordFault.TheVariants.{NoVersion};
 
 use crate::drafts::{Draft, Named};
@@ -76,16 +75,14 @@ fn absence(targets: &[TargetScript], named: &Named) -> Option<TokenFault<ScriptK
 {
     match targets.get(named.target as usize) {
         None => Some(TokenFault {
-            left: named.left,
-            unit: None,
+            place: named.at.target,
             kind: ScriptKind::NoSuchTarget {
                 target: u64::from(named.target),
                 targets: targets.len(),
             },
         }),
         Some(target) if named.channel >= target.channels => Some(TokenFault {
-            left: named.left.saturating_sub(1),
-            unit: None,
+            place: named.at.channel,
             kind: ScriptKind::NoSuchChannel {
                 channel: u64::from(named.channel),
                 target: named.target,
@@ -96,15 +93,14 @@ fn absence(targets: &[TargetScript], named: &Named) -> Option<TokenFault<ScriptK
     }
 }
 
-fn pass_word(words: &mut Words)
-    ensures { words.new ≡ drop 1 words.old }
+// What is on a line from a place on.
+fn from_place(line: &[u8], place: usize) -> &[u8]
+    ensures { result.now ≡ from_place line.now place }
 {
-    match words.next_word() {
-        Some(_) | None => {}
-    }
+    &line[line.len().saturating_sub(place)..]
 }
 
-// The number that the next word is, or this one if it is none.
+// The number that the first of these words is, or this one if it is none.
 fn first_number(words: &Words, other: u64) -> u64
     ensures { result ≡ first_number words.now other }
 {
@@ -114,29 +110,24 @@ fn first_number(words: &Words, other: u64) -> u64
     }
 }
 
-// The kind of a fault with the number that its line names, which may have more than 32 bits.
-fn with_number(line: &[u8], kind: ScriptKind) -> ScriptKind
-    ensures { result ≡ with_number (words_of line.now) kind }
+// The kind of a fault with the number that these words begin with, which may have more than 32 bits.
+fn with_number(words: &Words, kind: ScriptKind) -> ScriptKind
+    ensures { result ≡ with_number words.now kind }
 {
-    let mut words = Words::new(line);
-    pass_word(&mut words);
     match kind {
         ScriptKind::NoSuchTarget { target, targets } => ScriptKind::NoSuchTarget {
-            target: first_number(&words, target),
+            target: first_number(words, target),
             targets,
         },
         ScriptKind::NoSuchChannel {
             channel,
             target,
             channels,
-        } => {
-            pass_word(&mut words);
-            ScriptKind::NoSuchChannel {
-                channel: first_number(&words, channel),
-                target,
-                channels,
-            }
-        }
+        } => ScriptKind::NoSuchChannel {
+            channel: first_number(words, channel),
+            target,
+            channels,
+        },
         kind => kind,
     }
 }
@@ -149,8 +140,8 @@ fn absence_at(text: &[u8], number: u32, fault: TokenFault<ScriptKind>) -> Script
     let line = line_or_empty(number, text);
     ScriptFault {
         line: number,
-        column: column_at(Layout::Text, line, fault.left, fault.unit),
-        kind: with_number(line, fault.kind),
+        column: column_at(Layout::Text, line, fault.place),
+        kind: with_number(&Words::new(from_place(line, fault.place)), fault.kind),
     }
 }
 
@@ -160,7 +151,7 @@ fn first_absence(targets: &[TargetScript], named: &[Named]) -> Option<(u32, Toke
 {
     for word in named {
         if let Some(fault) = absence(targets, word) {
-            return Some((word.line, fault));
+            return Some((word.at.line, fault));
         }
     }
     None

@@ -4,12 +4,12 @@ ghost use Rattle.sb_scripttext.specs.Statements.{short, value_at, short_at, bloc
 ghost use Rattle.sb_base.specs.Refusals.{Gives};
 ghost use Rattle.sb_text.specs.Steps.{Reads};
 
-use crate::arguments::MOST_32;
+use crate::arguments::MAX_32;
 use crate::faults::ScriptKind::{BadNumber, NoSuchWord, WrongArgs};
 use crate::faults::{KindRefused, LineRefused, ScriptKind};
 use crate::steps::{BROKEN, at_line_end, number_at, within};
 use sb_base::is_word;
-use sb_statements::{MOST_PATIENCE, Statement, Word};
+use sb_statements::{MAX_PATIENCE, Statement, Word};
 use sb_text::{Tokens, WordFault, end_at, number_of, word_due};
 
 const LAST_BLOCK_WORD: u64 = 63;
@@ -23,7 +23,7 @@ const EXTRA: ScriptKind = WrongArgs(WordFault::Extra);
 fn short(number: u64) -> u32
     ensures { result ≡ short number }
 {
-    if number <= MOST_32 {
+    if number <= MAX_32 {
         number as u32
     } else {
         0xFFFF_FFFF
@@ -145,7 +145,7 @@ pub(crate) fn wait(tokens: &mut Tokens) -> Result<Statement, LineRefused>
     let due = tokens.copy();
     let loads = value_at(tokens)?;
     end_at(EXTRA, BROKEN, tokens)?;
-    match within(1, u64::from(MOST_PATIENCE), loads) {
+    match within(1, u64::from(MAX_PATIENCE), loads) {
         Ok(most) => Ok(Statement::Wait {
             target,
             word,

@@ -1,23 +1,17 @@
 -- Each handle is granted on the event of the name.
-use Rattle.std.proofs.Common.{◌≡◌, ◌+◌, ℕ, Bool, true, false, refl, ◌∙◌, ap, arith, List, [], ◌∷◌, ◌==◌, nat_eq, if◌then◌else◌}
+use Rattle.std.proofs.Common.{◌≡◌, ◌+◌, ℕ, Bool, true, false, refl, ◌∙◌, ap, [], ◌∷◌, ◌==◌, if◌then◌else◌}
 use Rattle.std.proofs.lemmas.Bool.{false≢true}
-use Rattle.std.proofs.lemmas.Bool.Decides.{nat_tests}
 use Rattle.std.specs.Prelude.{Option, None, Some, not}
 use Rattle.sb_call.specs.Statuses.{name_exists, type_mismatch}
 use Rattle.sb_handles.specs.Effects.{Effect, grants, refused, is_done}
 use Rattle.sb_names.specs.Keys.{key_of}
 use Rattle.sb_names.specs.Laws.{PutsAreFound}
-use Rattle.sb_names.specs.Maps.{found, is_key}
+use Rattle.sb_names.specs.Maps.{found}
 use Rattle.sb_services.specs.Events.{Events, create_by, on_event, open_by, shown}
 use Rattle.sb_services.specs.EventKinds.{kind_number}
 use Rattle.sb_services.specs.EventLaws.{CreatesGrantTheirEvent, IsGrantedOn, OpensGrantTheirEvent}
 use Rattle.sb_services.specs.declared.event_rows.EventRow.{EventRow}
-
-pub own_key : (key : List ℕ) → is_key key key ≡ true
-own_key [] = refl
-own_key (u ∷ us) =
-    let same : nat_eq u u ≡ true = grind (arith, nat_tests) in
-    rw same (own_key us)
+use Rattle.sb_services.proofs.NamedPipes.{own_key}
 
 pub creates_grant_their_event : PutsAreFound EventRow → CreatesGrantTheirEvent
 creates_grant_their_event puts events handles target name kind initial = by (found events.rows name) refl

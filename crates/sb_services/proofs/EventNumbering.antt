@@ -1,9 +1,9 @@
 -- Each name is one and leads to an event that was made, and no two to one, after one more was made or taken back.
-use Rattle.std.proofs.Common.{◌≡◌, ◌+◌, ℕ, true, refl, sym, subst, List, [], ◌∷◌, nat_eq}
+use Rattle.std.proofs.Common.{◌≡◌, ◌+◌, ℕ, true, refl, sym, subst, List, [], ◌∷◌}
 use Rattle.std.proofs.lemmas.Bool.{and_parts}
 use Rattle.std.specs.BTreeMap.{insert_entry}
 use Rattle.std.specs.Cmp.Lexicographic.{slice_cmp}
-use Rattle.std.specs.List.{IsDistinct, list_all}
+use Rattle.std.specs.List.{list_all}
 use Rattle.std.specs.Ordering.{nat_cmp, match_ordering}
 use Rattle.std.specs.declared.cmp.Ordering.{Ordering}
 use Rattle.std.specs.declared.cmp.Ordering.TheVariants.{Less, Equal, Greater}
@@ -14,6 +14,7 @@ use Rattle.sb_names.specs.Maps.{Rows, put}
 use Rattle.sb_names.specs.Numbers.{AreNumbered, PutsKeepNumbers}
 use Rattle.sb_services.specs.Events.{Events, AreMade, AreNamed, number_of}
 use Rattle.sb_services.specs.declared.event_rows.EventRow.{EventRow}
+use Rattle.sb_services.proofs.FileLemmas.{none_twice}
 
 abbrev by_unit : List ℕ → List ℕ → Ordering
 by_unit = slice_cmp nat_cmp
@@ -38,10 +39,6 @@ one_more keeps folds events rows name row number next own e is_name are = record
       (subst (λ rows. AreNumbered number_of (events.made + 1) rows) (sym e) (keeps number_of events.made events.rows name row are.numbered own));
   named = subst AreNamed (sym e) (named_put (key_of name) row events.rows are.named (folds name is_name));
 }
-
-none_twice : IsDistinct nat_eq []
-unfolding IsDistinct
-none_twice = tt
 
 pub none_made : (rows : Rows EventRow) → rows ≡ [] → AreMade (record { rows = rows; made = 0 })
 none_made rows e = subst (λ rows. AreMade (record { rows = rows; made = 0 })) (sym e)

@@ -23,6 +23,7 @@ use Rattle.sb_services.specs.declared.file_objects.FileObject.{FileObject}
 use Rattle.sb_services.proofs.FileCreationCases.{by_create}
 use Rattle.sb_services.proofs.FileLemmas.{found_made}
 use Rattle.sb_services.proofs.RenameLaws.{chosen}
+use Rattle.sb_services.proofs.NamedPipes.{own_key}
 
 -- what an effect of file.create makes of another name
 abbrev IsFoundAfter : Files → List ℕ → List ℕ → Effect Files → Type 0
@@ -63,12 +64,6 @@ opens_leave_names files handles target name request needs =
         (chosen P (replaces request.disposition)
         (opens (with_attributes files number request.attributes) handles target number request (replaced_as request.disposition))
         (opens files handles target number request was_opened) refl refl))))
-
-own_key : (key : List ℕ) → is_key key key ≡ true
-own_key [] = refl
-own_key (u ∷ us) =
-    let same : nat_eq u u ≡ true = grind (arith, nat_tests) in
-    rw same (own_key us)
 
 pub creates_grant_their_file : PutsAreFound ℕ → CreatesGrantTheirFile
 creates_grant_their_file puts files handles target name request =

@@ -87,7 +87,7 @@ files_left files shares handle e are =
         by true i = all_with (on_made (length files.objects)) row (left rows handle) (first_of (on_made (length files.objects)) row rows all) i
         by false i = i
 
-none_twice : IsDistinct nat_eq []
+pub none_twice : IsDistinct nat_eq []
 unfolding IsDistinct
 none_twice = tt
 

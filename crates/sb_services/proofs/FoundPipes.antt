@@ -1,4 +1,5 @@
 -- What is found after a call, and what its handle is on.
+use Rattle.std.proofs.lemmas.Option.{same_Some}
 use Rattle.std.proofs.Common.{◌≡◌, ◌≤◌, ◌+◌, ℕ, Bool, true, false, cond, refl, sym, ◌∙◌, ap, arith, List, [], ◌∷◌, if◌then◌else◌}
 use Rattle.std.proofs.lemmas.Bool.{false≢true}
 use Rattle.std.specs.Prelude.{None, Some, is_some}
@@ -16,7 +17,7 @@ use Rattle.sb_services.specs.declared.pipe_modes.PipeMode.{PipeMode}
 use Rattle.sb_services.specs.declared.pipe_rows.PipeRow.{PipeRow}
 use Rattle.sb_services.proofs.NamedPipes.{own_key}
 use Rattle.sb_services.proofs.PipeLaws.{by_create}
-use Rattle.sb_services.proofs.PipeRowCases.{equal_keys, some_of}
+use Rattle.sb_services.proofs.PipeRowCases.{equal_keys}
 
 -- the row of a key has the value that it was given
 found_set : (key : List ℕ) (old value : PipeRow) (rows : Rows PipeRow) → lookup (is_key key) rows ≡ Some old
@@ -84,7 +85,7 @@ made_pipes_are_as_asked puts pipes handles target name mode form instances absen
 pub calls_add_handles : CallsAddHandles
 calls_add_handles pipes handles target name mode form instances row there =
     by_create P pipes handles target name mode form instances (λ status n h. absurd (n h))
-    (λ other f h. found_set (key_of name) other (one_more other) pipes.rows f ∙ ap (λ r. Some (one_more r)) (some_of other row (sym f ∙ there)))
+    (λ other f h. found_set (key_of name) other (one_more other) pipes.rows f ∙ ap (λ r. Some (one_more r)) (same_Some other row (sym f ∙ there)))
     (λ f h. absurd (none_is_some row (sym f ∙ there)))
   where
     P : Effect Pipes → Type 0

@@ -14,8 +14,8 @@ use Rattle.sb_names.specs.Objects.{IsNameBy}
 use Rattle.sb_base.specs.Names.{is_name_of}
 use Rattle.sb_services.specs.Events.{AreKept, AreMade, number_of}
 use Rattle.sb_services.specs.declared.event_rows.EventRow.{EventRow}
-use Rattle.sb_services.proofs.EventGrants.{own_key}
 use Rattle.sb_services.proofs.EventNumbering.{none_made, one_more}
+use Rattle.sb_services.proofs.NamedPipes.{own_key}
 
 -- a number that was not given is that of no row
 not_given : (count number : ℕ) (rows : Rows EventRow) → list_all (λ row. is_given count (number_of row.1)) rows ≡ true → is_given count number ≡ false

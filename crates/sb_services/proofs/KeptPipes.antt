@@ -1,6 +1,5 @@
 -- What holds of the pipes holds with one more, with a handle more, and with a handle fewer.
 use Rattle.std.proofs.Common.{◌≡◌, ◌<◌, ◌≤◌, ◌+◌, ◌-◌, ℕ, Bool, true, false, refl, sym, subst, ap, arith, List, [], ◌∷◌, nat_eq, nat_le, map}
-use Rattle.std.proofs.lemmas.Bool.{and_parts}
 use Rattle.std.proofs.lemmas.Bool.Decides.{nat_tests}
 use Rattle.std.proofs.lemmas.Map.Keys.{IsDistinct-head, IsDistinct-tail, IsDistinct-cons}
 use Rattle.std.specs.Prelude.{None, Some}
@@ -12,21 +11,7 @@ use Rattle.sb_services.specs.declared.pipe_modes.PipeForm.{PipeForm}
 use Rattle.sb_services.specs.declared.pipe_modes.PipeMode.{PipeMode}
 use Rattle.sb_services.specs.declared.pipe_rows.PipeRow.{PipeRow}
 use Rattle.sb_services.proofs.PipeRowCases.{put_cases, set_cases, fewer_cases}
-
--- all pass, and one is no other
-pub all_with : {X : Type 0} (p : X → Bool) (x : X) (xs : List X) → p x ≡ true → list_all p xs ≡ true → list_all p (x ∷ xs) ≡ true
-all_with p x xs h all = rw h all
-
-pub first_of : {X : Type 0} (p : X → Bool) (x : X) (xs : List X) → list_all p (x ∷ xs) ≡ true → p x ≡ true
-first_of p x xs all = (and_parts (p x) (list_all p xs) all).0
-
-pub others_of : {X : Type 0} (p : X → Bool) (x : X) (xs : List X) → list_all p (x ∷ xs) ≡ true → list_all p xs ≡ true
-others_of p x xs all = (and_parts (p x) (list_all p xs) all).1
-
--- all pass a test that is no narrower
-pub widened : {X : Type 0} (p q : X → Bool) (xs : List X) → ((x : X) → p x ≡ true → q x ≡ true) → list_all p xs ≡ true → list_all q xs ≡ true
-widened p q [] f h = refl
-widened p q (x ∷ xs) f h = all_with q x xs (f x (first_of p x xs h)) (widened p q xs f (others_of p x xs h))
+use Rattle.sb_services.proofs.FileRowLemmas.{all_with, first_of, others_of, widened}
 
 -- each row passes, and so do rows in which one was put, or was given another value
 module _ {V : Type 0} (p : List ℕ × V → Bool) where

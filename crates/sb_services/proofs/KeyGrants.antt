@@ -1,21 +1,15 @@
 -- Each handle is granted on the key of the name.
-use Rattle.std.proofs.Common.{◌≡◌, ◌+◌, ℕ, Bool, true, false, refl, ◌∙◌, ap, arith, List, [], ◌∷◌, nat_eq, if◌then◌else◌}
-use Rattle.std.proofs.lemmas.Bool.Decides.{nat_tests}
+use Rattle.std.proofs.Common.{◌≡◌, ◌+◌, ℕ, Bool, true, false, refl, ◌∙◌, ap, arith, [], ◌∷◌, if◌then◌else◌}
 use Rattle.std.specs.Prelude.{Option, None, Some, not}
 use Rattle.sb_call.specs.Statuses.{path_not_found, success}
 use Rattle.sb_handles.specs.Effects.{Effect, refused}
 use Rattle.sb_names.specs.Keys.{key_of}
 use Rattle.sb_names.specs.Laws.{PutsAreFound}
-use Rattle.sb_names.specs.Maps.{found, is_key}
+use Rattle.sb_names.specs.Maps.{found}
 use Rattle.sb_names.specs.Trees.{has_parent}
 use Rattle.sb_services.specs.Registry.{Keys, create_by, open_by}
 use Rattle.sb_services.specs.KeyLaws.{CreatesGrantTheirKey, IsGrantedOn, OpensGrantTheirKey}
-
-own_key : (key : List ℕ) → is_key key key ≡ true
-own_key [] = refl
-own_key (u ∷ us) =
-    let same : nat_eq u u ≡ true = grind (arith, nat_tests) in
-    rw same (own_key us)
+use Rattle.sb_services.proofs.NamedPipes.{own_key}
 
 pub creates_grant_their_key : PutsAreFound ℕ → CreatesGrantTheirKey
 creates_grant_their_key puts keys handles target name access = by (has_parent keys.names name) (found keys.names name) refl

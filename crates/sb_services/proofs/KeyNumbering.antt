@@ -1,13 +1,9 @@
 -- Each name leads to a key that was made, and no two to one, after one more was made.
-use Rattle.std.proofs.Common.{◌≡◌, ◌+◌, ℕ, refl, sym, subst, List, [], nat_eq}
-use Rattle.std.specs.List.{IsDistinct}
+use Rattle.std.proofs.Common.{◌≡◌, ◌+◌, ℕ, refl, sym, subst, List, []}
 use Rattle.sb_names.specs.Maps.{Rows, put}
 use Rattle.sb_names.specs.Numbers.{AreNumbered, PutsKeepNumbers}
 use Rattle.sb_services.specs.Registry.{Keys, AreMade}
-
-none_twice : IsDistinct nat_eq []
-unfolding IsDistinct
-none_twice = tt
+use Rattle.sb_services.proofs.FileLemmas.{none_twice}
 
 pub none_made : (names : Rows ℕ) → names ≡ [] → AreMade (record { names = names; made = 0 })
 none_made names e = subst (λ rows. AreNumbered (λ n. n) 0 rows) (sym e) (record { given = refl; distinct = none_twice })

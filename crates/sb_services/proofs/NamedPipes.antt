@@ -1,4 +1,5 @@
 -- The names that are kept of pipes.
+use Rattle.std.proofs.lemmas.Option.{slice_get_past}
 use Rattle.std.proofs.Common.{◌≡◌, ◌<◌, ◌≤◌, ◌+◌, ◌-◌, ℕ, zero, suc, Bool, true, false, refl, sym, ◌∙◌, ap, arith, List, [], ◌∷◌, ◌++◌, ◌==◌, nat_eq, nat_le, length}
 use Rattle.std.proofs.lemmas.Bool.{false≢true}
 use Rattle.std.proofs.lemmas.Bool.Decides.{nat_tests}
@@ -9,7 +10,8 @@ use Rattle.sb_names.specs.Maps.{Rows, is_key, found, put, replaced}
 use Rattle.sb_services.specs.PipeKeeping.{in_slot, name_at, is_key_of, AreNamed, StandsUnder}
 use Rattle.sb_services.specs.Pipes.{fewer, is_made}
 use Rattle.sb_services.specs.declared.pipe_rows.PipeRow.{PipeRow}
-use Rattle.sb_services.proofs.KeptPipes.{all_put, all_replaced, all_fewer, all_with, first_of, others_of, widened}
+use Rattle.sb_services.proofs.KeptPipes.{all_put, all_replaced, all_fewer}
+use Rattle.sb_services.proofs.FileRowLemmas.{all_with, first_of, others_of, widened}
 
 pub get_pushed : {X : Type 0} (xs : List X) (x : X) (n : ℕ) → n < length xs → slice_get (xs ++ x ∷ []) n ≡ slice_get xs n
 get_pushed [] x n l = absurd (omega arith)
@@ -98,15 +100,10 @@ pub kept_low : (names : List (Option (List ℕ))) (number : ℕ) (name : List �
 kept_low names zero name kept = absurd (cc)
 kept_low names (suc number) name kept = omega arith
 
-past : {X : Type 0} (xs : List X) (n : ℕ) → length xs ≤ n → slice_get xs n ≡ None
-past [] n l = refl
-past (x ∷ xs) zero l = absurd (omega arith)
-past (x ∷ xs) (suc n) l = past xs n (omega arith)
-
 pub none_past : (names : List (Option (List ℕ))) (number : ℕ) → length names < number → name_at names number ≡ None
 none_past names number l =
     let no : (number == 0) ≡ false = grind (arith, nat_tests, l) in
-    rw no (ap in_slot (past names (number - 1) (omega (arith, l))))
+    rw no (ap in_slot (slice_get_past names (number - 1) (omega (arith, l))))
 
 pub kept_high : (names : List (Option (List ℕ))) (number : ℕ) (name : List ℕ) → name_at names number ≡ Some name → number ≤ length names
 kept_high names number name kept = by (nat_le number (length names)) refl

@@ -1,4 +1,5 @@
 -- Whether a pipe of a number is there, and what is kept of its name.
+use Rattle.std.proofs.lemmas.Option.{same_Some}
 use Rattle.std.proofs.Common.{◌≡◌, ◌<◌, ◌≤◌, ◌+◌, ◌-◌, ℕ, zero, suc, Bool, true, false, cond, refl, sym, subst, ◌∙◌, ap, arith, List, [], ◌∷◌, ◌++◌, ◌==◌, nat_le, length, if◌then◌else◌}
 use Rattle.std.proofs.lemmas.Bool.{false≢true}
 use Rattle.std.proofs.lemmas.Bool.Decides.{nat_tests}
@@ -15,9 +16,10 @@ use Rattle.sb_names.specs.Maps.{Rows, Rises, is_key, found, put, replaced}
 use Rattle.sb_services.specs.PipeKeeping.{AreNamed, AreOfPipes, StandsUnder, in_slot, is_key_of, is_numbered, name_at}
 use Rattle.sb_services.specs.Pipes.{fewer}
 use Rattle.sb_services.specs.declared.pipe_rows.PipeRow.{PipeRow}
-use Rattle.sb_services.proofs.KeptPipes.{all_fewer, all_with, first_of, others_of}
+use Rattle.sb_services.proofs.KeptPipes.{all_fewer}
 use Rattle.sb_services.proofs.NamedPipes.{name_pushed, none_past}
-use Rattle.sb_services.proofs.PipeRowCases.{by_unit, equal_keys, fewer_cases, put_cases, set_cases, some_of}
+use Rattle.sb_services.proofs.PipeRowCases.{by_unit, equal_keys, fewer_cases, put_cases, set_cases}
+use Rattle.sb_services.proofs.FileRowLemmas.{all_with, first_of, others_of}
 
 abbrev numbered_by : ℕ → Rows PipeRow → Option (List ℕ × PipeRow)
 numbered_by number rows = find (λ row. row.1.number == number) rows
@@ -59,13 +61,13 @@ module _ (key : List ℕ) (number : ℕ) where
           → cond t (Some row.1) (lookup (is_key key) rows) ≡ Some pipe
           → (list_all under rows ≡ true → lookup (is_key key) rows ≡ Some pipe → is_numbered rows number ≡ (pipe.number == number))
           → is_some (if s then Some row else numbered_by number rows) ≡ (pipe.number == number)
-      by true e true t u f i = sym (sym (ap (λ x. x.number == number) (some_of row.1 pipe f)) ∙ e)
+      by true e true t u f i = sym (sym (ap (λ x. x.number == number) (same_Some row.1 pipe f)) ∙ e)
       by true e false t u f i = absurd (false≢true u)
       by false e true t u f i =
           let same : row.0 ≡ key = sym (equal_keys key row.0 t) in
           let rest : AllByRecursion (λ other. by_unit key other ≡ Less) (keys_of rows) =
           subst (λ k. AllByRecursion (λ other. by_unit k other ≡ Less) (keys_of rows)) same (sorted_head by_unit row.0 (keys_of rows) r) in
-          after rows rest u ∙ sym (sym (ap (λ x. x.number == number) (some_of row.1 pipe f)) ∙ e)
+          after rows rest u ∙ sym (sym (ap (λ x. x.number == number) (same_Some row.1 pipe f)) ∙ e)
       by false e false t u f i = i u f
 
 pub numbered_nowhere : (rows : Rows PipeRow) (name : List ℕ) (number : ℕ) → found rows name ≡ None → StandsUnder name number rows → is_numbered rows number ≡ false

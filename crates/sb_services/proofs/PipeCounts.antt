@@ -9,7 +9,8 @@ use Rattle.sb_names.specs.Maps.{Rows, found, put, replaced}
 use Rattle.sb_services.specs.Pipes.{is_made, fewer, handles_by}
 use Rattle.sb_services.specs.declared.pipe_rows.PipeRow.{PipeRow}
 use Rattle.sb_services.proofs.PipeRowCases.{put_cases, set_cases, fewer_cases}
-use Rattle.sb_services.proofs.KeptPipes.{first_of, others_of, numbers, Differs, AreDistinct, past_differs}
+use Rattle.sb_services.proofs.KeptPipes.{numbers, Differs, AreDistinct, past_differs}
+use Rattle.sb_services.proofs.FileRowLemmas.{first_of, others_of}
 
 -- the pipe of a number
 abbrev pub pipe_of : ℕ → Rows PipeRow → Option (List ℕ × PipeRow)

@@ -1,4 +1,5 @@
 -- A handle fewer on the pipe of a number, which is found by its name.
+use Rattle.std.proofs.lemmas.Option.{same_Some}
 use Rattle.std.proofs.Common.{◌≡◌, ◌-◌, ℕ, Bool, true, false, cond, refl, sym, subst, ◌∙◌, ap, List, [], ◌∷◌, ◌==◌, nat_le, if◌then◌else◌}
 use Rattle.std.proofs.lemmas.Bool.{false≢true}
 use Rattle.std.specs.Prelude.{None, Some, not, ◌||◌, ◌&&◌}
@@ -12,7 +13,6 @@ use Rattle.sb_services.specs.Pipes.{fewer}
 use Rattle.sb_services.specs.declared.pipe_rows.PipeRow.{PipeRow}
 use Rattle.sb_services.proofs.NamedPipes.{own_key}
 use Rattle.sb_services.proofs.NumberedPipes.{numbered_nowhere, numbered_there, numbered_replaced, stands_fewer}
-use Rattle.sb_services.proofs.PipeRowCases.{some_of}
 
 module _ (key : List ℕ) (number : ℕ) where
   abbrev under : List ℕ × PipeRow → Bool
@@ -36,9 +36,9 @@ module _ (key : List ℕ) (number : ℕ) where
           → (list_all under rows ≡ true → lookup (is_key key) rows ≡ Some pipe → fewer rows number ≡ dropped pipe rows)
           → fewer (row ∷ rows) number ≡ dropped pipe (row ∷ rows)
       by true e true t u f i =
-          rw (e, t) (ap (λ x. if nat_le x.handles 1 then rows else (row.0, record x { handles = x.handles - 1 }) ∷ rows) (some_of row.1 pipe f))
+          rw (e, t) (ap (λ x. if nat_le x.handles 1 then rows else (row.0, record x { handles = x.handles - 1 }) ∷ rows) (same_Some row.1 pipe f))
       by true e false t u f i = absurd (false≢true u)
-      by false e true t u f i = absurd (false≢true (sym e ∙ ap (λ x. x.number == number) (some_of row.1 pipe f) ∙ n))
+      by false e true t u f i = absurd (false≢true (sym e ∙ ap (λ x. x.number == number) (same_Some row.1 pipe f) ∙ n))
       by false e false t u f i =
           rw (e, t) (ap (λ more. row ∷ more) (i u f)
           ∙ behind (nat_le pipe.handles 1) (remove_entry (is_key key) rows) (set_value (is_key key) rows (record pipe { handles = pipe.handles - 1 })))

@@ -1,5 +1,5 @@
 -- The laws of pipes.
-use Rattle.std.proofs.Common.{◌≡◌, ◌⊎◌, inl, inr, ◌≤◌, ◌+◌, ◌-◌, ℕ, Bool, true, false, refl, sym, ◌∙◌, ap, arith, List, [], ◌∷◌, ◌==◌, if◌then◌else◌}
+use Rattle.std.proofs.Common.{◌≡◌, ◌⊎◌, inl, inr, ◌≤◌, ◌+◌, ◌-◌, ℕ, true, refl, sym, ◌∙◌, ap, arith, List, [], ◌∷◌, ◌==◌, if◌then◌else◌}
 use Rattle.std.specs.Prelude.{Option, None, Some, not, nat_lt, ◌&&◌}
 use Rattle.sb_call.specs.Statuses.{success, invalid_parameter, access_denied, instance_not_available}
 use Rattle.sb_handles.specs.Agreements.{is_pipe, pipe_handles}
@@ -14,17 +14,13 @@ use Rattle.sb_services.specs.declared.pipe_modes.PipeForm.{PipeForm}
 use Rattle.sb_services.specs.declared.pipe_modes.PipeMode.{PipeMode}
 use Rattle.sb_services.specs.declared.pipe_rows.PipeRow.{PipeRow}
 use Rattle.sb_services.proofs.PipeCounts.{count_put, count_replaced, count_fewer, there_by_count}
+use Rattle.sb_services.proofs.RenameLaws.{chosen}
 
 abbrev Unchanged : Pipes → Table → Effect Pipes → Type 0
 Unchanged pipes handles effect = (effect.service ≡ pipes) × (effect.handles ≡ handles)
 
 abbrev IsPlain : Pipes → Table → Effect Pipes → Type 0
 IsPlain pipes handles effect = (effect.answer.status ≡ success → ⊥) → Unchanged pipes handles effect
-
--- a choice of two
-pub chosen : {X : Type 0} (P : X → Type 0) (b : Bool) (x y : X) → P x → P y → P (if b then x else y)
-chosen P true x y p q = p
-chosen P false x y p q = q
 
 -- what holds of a call that is refused, of one on a pipe that is there, and of one that makes a pipe, holds of each
 pub by_create : (P : Effect Pipes → Type 0) (pipes : Pipes) (handles : Table) (target : ℕ) (name : List ℕ) (mode : PipeMode) (form : PipeForm) (instances : ℕ)

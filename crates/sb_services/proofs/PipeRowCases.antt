@@ -1,7 +1,8 @@
 -- Rows with one more, with another value, and with a handle fewer: what holds of each step holds of the whole.
+use Rattle.std.proofs.lemmas.Option.{same_Some}
 use Rattle.std.proofs.Common.{◌≡◌, ◌-◌, ℕ, Bool, true, false, cond, refl, sym, subst, ◌∙◌, ap, List, [], ◌∷◌, ◌==◌, nat_le, if◌then◌else◌}
 use Rattle.std.proofs.lemmas.Bool.{false≢true}
-use Rattle.std.specs.Prelude.{Option, None, Some}
+use Rattle.std.specs.Prelude.{None, Some}
 use Rattle.std.specs.BTreeMap.{insert_entry}
 use Rattle.std.specs.Cmp.Lexicographic.{slice_cmp, bytes_decides, texts_ties}
 use Rattle.std.specs.Map.{lookup, set_value}
@@ -18,13 +19,6 @@ by_unit = slice_cmp nat_cmp
 
 pub equal_keys : (a b : List ℕ) → is_key a b ≡ true → a ≡ b
 equal_keys a b h = (bytes_decides a b).0 h
-
-pub some_of : {V : Type 0} (a b : V) → Some a ≡ Some b → a ≡ b
-some_of {V} a b e = ap (value_or a) e
-  where
-    value_or : V → Option V → V
-    value_or d None = d
-    value_or d (Some v) = v
 
 module _ {V : Type 0} (P : Rows V → Rows V → Type 0) where
   -- a row of a key that is not there goes somewhere among the others
@@ -55,7 +49,7 @@ module _ {V : Type 0} (P : Rows V → Rows V → Type 0) where
       by : (b : Bool) → cond b (Some row.1) (lookup (is_key key) rows) ≡ Some old
           → (lookup (is_key key) rows ≡ Some old → P rows (set_value (is_key key) rows value))
           → P (row ∷ rows) (cond b ((row.0, value) ∷ rows) (row ∷ set_value (is_key key) rows value))
-      by true h f = at_row (some_of row.1 old h)
+      by true h f = at_row (same_Some row.1 old h)
       by false h f = on row rows (set_value (is_key key) rows value) (f h)
 
 -- a pipe has one handle fewer, or is gone

@@ -4,8 +4,8 @@ use Rattle.sb_handles.specs.Shares.{Shares}
 use Rattle.sb_names.specs.Keys.{key_of, parent_of}
 use Rattle.sb_names.specs.Maps.{found}
 use Rattle.sb_names.specs.Nodes.{Nodes, IsAt, number_of, rows_of}
-use Rattle.sb_names.specs.declared.seeking.Seek.{Seek}
-use Rattle.sb_names.specs.declared.seeking.Seek.TheVariants as seek
+use Rattle.sb_names.specs.declared.trees.Lookup.{Lookup}
+use Rattle.sb_names.specs.declared.trees.Lookup.TheVariants as seek
 use Rattle.sb_services.specs.Files.{has_parent, is_directory, object_at}
 use Rattle.sb_services.specs.declared.file_objects.FileObject.{FileObject}
 
@@ -20,7 +20,7 @@ ParentIs b names objects name =
     (shares : Shares) → has_parent (record { names = rows_of names; objects = objects; shares = shares }) name ≡ b
 
 -- a name leads there: its directory is missing or a file; or its directory is there, and the name is not; or the name is there
-abbrev pub IsSought : Nodes → List FileObject → List ℕ → Seek → Type 0
+abbrev pub IsSought : Nodes → List FileObject → List ℕ → Lookup → Type 0
 IsSought names objects name seek.NoDirectory = ParentIs false names objects name
 IsSought names objects name (seek.Absent directory parent) =
     ParentIs true names objects name × IsAt names (number_of directory) (key_of (parent_of name)) × (found (rows_of names) name ≡ None)

@@ -10,12 +10,12 @@ ghost use Rattle.sb_names.specs.Objects.{IsNameBy};
 ghost use Rattle.sb_services.specs.EventKinds.{kind_number, state_number};
 ghost use Rattle.sb_services.specs.Events.{AreEvents, no_events, number_of, on_event, create, create_by, open_by_name, can_start, started, with_event};
 
-use crate::event_kinds::{EventKind, state_number};
+use crate::event_kinds::EventKind;
 use crate::event_rows::EventRow;
 use bitflags::Flags;
 use sb_base::{NoMemory, Wide};
 use sb_call::{Answer, NAME_EXISTS, NAME_NOT_FOUND, SUCCESS, TYPE_MISMATCH};
-use sb_handles::{Access, HandleTable, Held, Object, Service, Sharing};
+use sb_handles::{Access, HandleTable, Held, Service, Sharing};
 use sb_names::{NameMap, fold_name, names_fold, numbers_are_kept, puts_are_found, puts_keep_rows};
 use std::alloc::Global;
 use std::marker::Model;
@@ -48,14 +48,7 @@ impl Model for EventService {
 fn on_event(number: u64, access: Access) -> Held
     ensures { result ≡ on_event number access.0 }
 {
-    Held {
-        object: Object {
-            service: Service::Event,
-            number,
-        },
-        access,
-        sharing: Sharing::empty(),
-    }
+    Held::new(Service::Event, number, access, Sharing::empty())
 }
 
 // The name at the place of a number, or None if there is no such place.
@@ -74,7 +67,7 @@ fn name_at(names: &[Wide], number: u64) -> Option<&[u16]>
 fn showing(status: u32, handle: u64, kind: EventKind, initial: bool) -> Answer
     ensures { result ≡ granting status handle (kind_number kind ∷ state_number initial ∷ []) }
 {
-    Answer::with_words(status, handle, kind.number(), state_number(initial))
+    Answer::with_words(status, handle, kind as u64, u64::from(initial))
 }
 
 impl EventService {
@@ -192,7 +185,7 @@ impl EventService {
         ensures err { OnErr result ((self.new ≡ self.old) × (handles.new.table ≡ handles.old.table)) }
     {
         match self.rows.find(name) {
-            Some(row) if row.kind.number() != kind.number() => Ok(Answer::refusal(TYPE_MISMATCH)),
+            Some(row) if row.kind != kind => Ok(Answer::refusal(TYPE_MISMATCH)),
             Some(row) => {
                 let handle = handles.grant(target, on_event(row.number, Access::empty()))?;
                 Ok(showing(NAME_EXISTS, handle, row.kind, row.initial))

@@ -20,8 +20,8 @@ use sb_call::{
     Answer, FILE_IS_A_DIRECTORY, NAME_COLLISION, NAME_NOT_FOUND, NOT_A_DIRECTORY, PATH_NOT_FOUND,
     SHARING_VIOLATION, SUCCESS,
 };
-use sb_handles::{HandleTable, Held, Object, Service, ShareTable, agreement_is_kept};
-use sb_names::{NameTree, NodeId, Seek, numbers_are_kept, parents_are_kept};
+use sb_handles::{HandleTable, Held, Service, ShareTable, agreement_is_kept};
+use sb_names::{Lookup, NameTree, NodeId, numbers_are_kept, parents_are_kept};
 
 // What was done, as the extended word.
 const WAS_SUPERSEDED: u64 = 0;
@@ -56,14 +56,7 @@ fn object_asked(request: FileRequest) -> FileObject
 fn on_file(number: u64, request: FileRequest) -> Held
     ensures { result ≡ on_file number request }
 {
-    Held {
-        object: Object {
-            service: Service::File,
-            number,
-        },
-        access: request.access,
-        sharing: request.sharing,
-    }
+    Held::new(Service::File, number, request.access, request.sharing)
 }
 
 // Grants a handle on an object, which then takes part in sharing. It does not look for conflicts.
@@ -165,12 +158,14 @@ impl FileService {
         numbers_are_kept::<u64>();
         parents_are_kept();
         match seek_in(&self.names, &self.objects, name) {
-            Seek::NoDirectory => Ok(Answer::refusal(PATH_NOT_FOUND)),
-            Seek::There { object, .. } => self.create_there(handles, target, name, object, request),
-            Seek::Absent { .. } if request.disposition.needs_object() => {
+            Lookup::NoDirectory => Ok(Answer::refusal(PATH_NOT_FOUND)),
+            Lookup::There { object, .. } => {
+                self.create_there(handles, target, name, object, request)
+            }
+            Lookup::Absent { .. } if request.disposition.needs_object() => {
                 Ok(Answer::refusal(NAME_NOT_FOUND))
             }
-            Seek::Absent { directory, .. } => {
+            Lookup::Absent { directory, .. } => {
                 self.objects.reserve(1)?;
                 let number = self.objects.len() as u64 + 1;
                 let new = self.names.reserve_at(directory, name, number)?;

@@ -1,14 +1,14 @@
 // A file or directory, apart from its name.
 ghost use Rattle.std.specs.Prelude.{◌≡◌};
-ghost use Rattle.sb_services.specs.Files.{is_directory, kind_of, kind_number};
+ghost use Rattle.sb_services.specs.Files.{is_directory, kind_of};
 
 /// A file or a directory.
-#[derive(Clone, Copy)]
+#[derive(Clone, Copy, Debug, PartialEq, Eq)]
 pub enum FileKind {
     /// A file.
-    File,
+    File = 0,
     /// A directory.
-    Directory,
+    Directory = 1,
 }
 
 impl FileKind {
@@ -27,20 +27,7 @@ impl FileKind {
     pub fn is_directory(self) -> bool
         ensures { result ≡ is_directory self }
     {
-        match self {
-            FileKind::File => false,
-            FileKind::Directory => true,
-        }
-    }
-
-    /// Its number: 0 of a file, 1 of a directory.
-    pub fn number(self) -> u64
-        ensures { result ≡ kind_number self }
-    {
-        match self {
-            FileKind::File => 0,
-            FileKind::Directory => 1,
-        }
+        self == FileKind::Directory
     }
 }
 

@@ -1,43 +1,52 @@
 // What a file.create asks for.
 ghost use Rattle.std.specs.Prelude.{◌≡◌, ⊤, ◌∷◌, [], codes, IfSome};
-ghost use Rattle.sb_services.specs.FileRequests.{create_request, disposition_of, is_invalid, needs_free_name, needs_object, open_request, replaces, valid_request, wants_directory, wants_file};
+ghost use Rattle.sb_services.specs.FileRequests.{create_request, is_invalid, needs_free_name, needs_object, open_request, replaces, valid_request, wants_directory, wants_file};
 
 use bitflags::{Flag, Flags};
+use sb_base::UnknownNumber;
 use sb_handles::{Access, Sharing};
 
 /// What to do if the name is there, and if it is not (`CreateDisposition`).
-#[derive(Clone, Copy)]
+#[derive(Clone, Copy, Debug, PartialEq, Eq)]
 pub enum Disposition {
     /// Replace the file, or make it (`FILE_SUPERSEDE`, 0).
-    Supersede,
+    Supersede = 0,
     /// Open what is there (`FILE_OPEN`, 1).
-    Open,
+    Open = 1,
     /// Make what is not there (`FILE_CREATE`, 2).
-    Create,
+    Create = 2,
     /// Open what is there, or make it (`FILE_OPEN_IF`, 3).
-    OpenOrCreate,
+    OpenOrCreate = 3,
     /// Replace the content of the file that is there (`FILE_OVERWRITE`, 4).
-    Overwrite,
+    Overwrite = 4,
     /// Replace the content of the file, or make it (`FILE_OVERWRITE_IF`, 5).
-    OverwriteOrCreate,
+    OverwriteOrCreate = 5,
+}
+
+/// The disposition of a number from 0 to 5, and an error exactly for any other.
+impl TryFrom<u64> for Disposition {
+    ghost use Rattle.std.specs.Prelude.{◌≡◌};
+    ghost use Rattle.std.specs.Result.{result_ok};
+    ghost use Rattle.sb_services.specs.FileRequests.{disposition_of};
+
+    type Error = UnknownNumber;
+
+    ghost try_from_gives = { λ number result. result_ok result ≡ disposition_of number };
+
+    fn try_from(number: u64) -> Result<Disposition, UnknownNumber> {
+        match number {
+            0 => Ok(Disposition::Supersede),
+            1 => Ok(Disposition::Open),
+            2 => Ok(Disposition::Create),
+            3 => Ok(Disposition::OpenOrCreate),
+            4 => Ok(Disposition::Overwrite),
+            5 => Ok(Disposition::OverwriteOrCreate),
+            _ => Err(UnknownNumber(number)),
+        }
+    }
 }
 
 impl Disposition {
-    /// The disposition of a number from 0 to 5, and None for any other.
-    pub fn of(number: u64) -> Option<Disposition>
-        ensures { result ≡ disposition_of number }
-    {
-        match number {
-            0 => Some(Disposition::Supersede),
-            1 => Some(Disposition::Open),
-            2 => Some(Disposition::Create),
-            3 => Some(Disposition::OpenOrCreate),
-            4 => Some(Disposition::Overwrite),
-            5 => Some(Disposition::OverwriteOrCreate),
-            _ => None,
-        }
-    }
-
     // Whether the name must be there.
     pub(crate) fn needs_object(self) -> bool
         ensures { result ≡ needs_object self }
@@ -52,10 +61,7 @@ impl Disposition {
     pub(crate) fn needs_free_name(self) -> bool
         ensures { result ≡ needs_free_name self }
     {
-        match self {
-            Disposition::Create => true,
-            _ => false,
-        }
+        self == Disposition::Create
     }
 
     // Whether the content of a file that is there is replaced, which no directory allows.
@@ -143,7 +149,7 @@ impl FileRequest {
         ensures request { result ≡ create_request attributes access sharing disposition options }
         ensures masks { IfSome result (λ request. (request.access ≡ access) × (request.sharing ≡ sharing)) }
     {
-        let disposition = Disposition::of(disposition)?;
+        let disposition = Disposition::try_from(disposition).ok()?;
         FileRequest {
             attributes,
             access,

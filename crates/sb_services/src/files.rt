@@ -18,7 +18,7 @@ use sb_call::{
 };
 use sb_handles::{Access, ShareTable, Sharing, handles_are_on_one_object};
 use sb_names::{
-    NameTree, NodeId, Seek, is_below, numbers_are_kept, parents_are_kept, renames_keep_numbers,
+    Lookup, NameTree, NodeId, is_below, numbers_are_kept, parents_are_kept, renames_keep_numbers,
 };
 use std::alloc::Global;
 use std::marker::Model;
@@ -121,18 +121,18 @@ fn admits(objects: &[FileObject], parent: Option<u64>) -> bool
 
 // Where the path of a name leads; it leads nowhere through a file.
 #[tactic(auto, using(crate::proofs::FileSeekLemmas::parent_gone, crate::proofs::FileSeekLemmas::parent_admits))]
-pub(crate) fn seek_in(names: &NameTree, objects: &[FileObject], name: &[u16]) -> Seek
+pub(crate) fn seek_in(names: &NameTree, objects: &[FileObject], name: &[u16]) -> Lookup
     requires { is_name_of name.now ≡ true }
     ensures { IsSought names.now.nodes objects.now name.now result }
 {
     let seek = names.seek(name);
     match seek {
-        Seek::NoDirectory => seek,
-        Seek::Absent { parent, .. } | Seek::There { parent, .. } => {
+        Lookup::NoDirectory => seek,
+        Lookup::Absent { parent, .. } | Lookup::There { parent, .. } => {
             if admits(objects, parent) {
                 seek
             } else {
-                Seek::NoDirectory
+                Lookup::NoDirectory
             }
         }
     }
@@ -183,11 +183,11 @@ impl FileService {
         ensures { result ≡ query self.now name.now }
     {
         match seek_in(&self.names, &self.objects, name) {
-            Seek::NoDirectory => Answer::refusal(PATH_NOT_FOUND),
-            Seek::Absent { .. } => Answer::refusal(NAME_NOT_FOUND),
-            Seek::There { object, .. } => {
+            Lookup::NoDirectory => Answer::refusal(PATH_NOT_FOUND),
+            Lookup::Absent { .. } => Answer::refusal(NAME_NOT_FOUND),
+            Lookup::There { object, .. } => {
                 let FileObject { kind, attributes } = object_at(&self.objects, object);
-                Answer::with_words(SUCCESS, 0, attributes, kind.number())
+                Answer::with_words(SUCCESS, 0, attributes, kind as u64)
             }
         }
     }
@@ -213,17 +213,17 @@ impl FileService {
         parents_are_kept();
         self.names.establish_tree();
         let (node, number) = match seek_in(&self.names, &self.objects, name) {
-            Seek::NoDirectory => return Ok(Answer::refusal(PATH_NOT_FOUND)),
-            Seek::Absent { .. } => return Ok(Answer::refusal(NAME_NOT_FOUND)),
-            Seek::There { node, object, .. } => (node, object),
+            Lookup::NoDirectory => return Ok(Answer::refusal(PATH_NOT_FOUND)),
+            Lookup::Absent { .. } => return Ok(Answer::refusal(NAME_NOT_FOUND)),
+            Lookup::There { node, object, .. } => (node, object),
         };
         if is_below(name, to) {
             return Ok(Answer::refusal(INVALID_PARAMETER));
         }
         let directory = match seek_in(&self.names, &self.objects, to) {
-            Seek::NoDirectory => return Ok(Answer::refusal(PATH_NOT_FOUND)),
-            Seek::There { .. } => return Ok(Answer::refusal(NAME_COLLISION)),
-            Seek::Absent { directory, .. } => directory,
+            Lookup::NoDirectory => return Ok(Answer::refusal(PATH_NOT_FOUND)),
+            Lookup::There { .. } => return Ok(Answer::refusal(NAME_COLLISION)),
+            Lookup::Absent { directory, .. } => directory,
         };
         if self
             .shares
@@ -242,7 +242,7 @@ impl FileService {
         ensures { result ≡ can_start self.now name.now }
     {
         match seek_in(&self.names, &self.objects, name) {
-            Seek::Absent { .. } => true,
+            Lookup::Absent { .. } => true,
             _ => false,
         }
     }
@@ -263,7 +263,7 @@ impl FileService {
     {
         numbers_are_kept::<u64>();
         parents_are_kept();
-        let Seek::Absent { directory, .. } = seek_in(&self.names, &self.objects, name) else {
+        let Lookup::Absent { directory, .. } = seek_in(&self.names, &self.objects, name) else {
             return Ok(false);
         };
         let object = FileObject {

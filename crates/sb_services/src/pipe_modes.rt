@@ -1,71 +1,62 @@
 // What a pipe is made with.
-ghost use Rattle.std.specs.Prelude.{◌≡◌};
-ghost use Rattle.sb_services.specs.PipeModes.{mode_of, mode_number, form_of, form_number};
+
+use sb_base::UnknownNumber;
 
 /// In which direction data go through a pipe (`PIPE_ACCESS_*`).
-#[derive(Clone, Copy)]
+#[derive(Clone, Copy, Debug, PartialEq, Eq)]
 pub enum PipeMode {
-    /// From the client to the server (1).
-    Inbound,
-    /// From the server to the client (2).
-    Outbound,
-    /// Both ways (3).
-    Duplex,
+    /// From the client to the server.
+    Inbound = 1,
+    /// From the server to the client.
+    Outbound = 2,
+    /// Both ways.
+    Duplex = 3,
 }
 
-impl PipeMode {
-    /// The mode of a number from 1 to 3, and None for any other.
-    pub fn of(number: u64) -> Option<PipeMode>
-        ensures { result ≡ mode_of number }
-    {
-        match number {
-            1 => Some(PipeMode::Inbound),
-            2 => Some(PipeMode::Outbound),
-            3 => Some(PipeMode::Duplex),
-            _ => None,
-        }
-    }
+/// The mode of a number from 1 to 3, and an error exactly for any other.
+impl TryFrom<u64> for PipeMode {
+    ghost use Rattle.std.specs.Prelude.{◌≡◌};
+    ghost use Rattle.std.specs.Result.{result_ok};
+    ghost use Rattle.sb_services.specs.PipeModes.{mode_of};
 
-    /// Its number, 1 to 3.
-    pub fn number(self) -> u64
-        ensures { result ≡ mode_number self }
-    {
-        match self {
-            PipeMode::Inbound => 1,
-            PipeMode::Outbound => 2,
-            PipeMode::Duplex => 3,
+    type Error = UnknownNumber;
+
+    ghost try_from_gives = { λ number result. result_ok result ≡ mode_of number };
+
+    fn try_from(number: u64) -> Result<PipeMode, UnknownNumber> {
+        match number {
+            1 => Ok(PipeMode::Inbound),
+            2 => Ok(PipeMode::Outbound),
+            3 => Ok(PipeMode::Duplex),
+            _ => Err(UnknownNumber(number)),
         }
     }
 }
 
 /// Whether data are a stream of bytes or of messages (`FILE_PIPE_*_TYPE`).
-#[derive(Clone, Copy)]
+#[derive(Clone, Copy, Debug, PartialEq, Eq)]
 pub enum PipeForm {
-    /// Bytes (0).
-    Bytes,
-    /// Messages (1).
-    Messages,
+    /// Bytes.
+    Bytes = 0,
+    /// Messages.
+    Messages = 1,
 }
 
-impl PipeForm {
-    /// The form of the number 0 or 1, and None for any other.
-    pub fn of(number: u64) -> Option<PipeForm>
-        ensures { result ≡ form_of number }
-    {
-        match number {
-            0 => Some(PipeForm::Bytes),
-            1 => Some(PipeForm::Messages),
-            _ => None,
-        }
-    }
+/// The form of the number 0 or 1, and an error exactly for any other.
+impl TryFrom<u64> for PipeForm {
+    ghost use Rattle.std.specs.Prelude.{◌≡◌};
+    ghost use Rattle.std.specs.Result.{result_ok};
+    ghost use Rattle.sb_services.specs.PipeModes.{form_of};
 
-    /// Its number, 0 or 1.
-    pub fn number(self) -> u64
-        ensures { result ≡ form_number self }
-    {
-        match self {
-            PipeForm::Bytes => 0,
-            PipeForm::Messages => 1,
+    type Error = UnknownNumber;
+
+    ghost try_from_gives = { λ number result. result_ok result ≡ form_of number };
+
+    fn try_from(number: u64) -> Result<PipeForm, UnknownNumber> {
+        match number {
+            0 => Ok(PipeForm::Bytes),
+            1 => Ok(PipeForm::Messages),
+            _ => Err(UnknownNumber(number)),
         }
     }
 }

@@ -13,7 +13,7 @@ use crate::pipe_rows::PipeRow;
 use bitflags::Flags;
 use sb_base::{NoMemory, Wide};
 use sb_call::{ACCESS_DENIED, Answer, INSTANCE_NOT_AVAILABLE, INVALID_PARAMETER, SUCCESS};
-use sb_handles::{Access, HandleTable, Held, Object, Service, Sharing, pipe_handles_are_counted};
+use sb_handles::{Access, HandleTable, Held, Service, Sharing, pipe_handles_are_counted};
 use sb_names::{NameMap, fold_name, names_fold, out_is_out};
 use std::alloc::Global;
 use std::marker::Model;
@@ -50,14 +50,7 @@ impl Model for PipeService {
 fn on_pipe(number: u64) -> Held
     ensures { result ≡ on_pipe number }
 {
-    Held {
-        object: Object {
-            service: Service::Pipe,
-            number,
-        },
-        access: Access::empty(),
-        sharing: Sharing::empty(),
-    }
+    Held::new(Service::Pipe, number, Access::empty(), Sharing::empty())
 }
 
 // Whether the instances are out of range.
@@ -71,9 +64,7 @@ fn is_invalid(instances: u64) -> bool
 fn is_alike(row: PipeRow, mode: PipeMode, form: PipeForm, instances: u64) -> bool
     ensures { result ≡ is_alike row mode form instances }
 {
-    row.mode.number() == mode.number()
-        && row.form.number() == form.number()
-        && row.instances == instances
+    row.mode == mode && row.form == form && row.instances == instances
 }
 
 // The name with which the pipe of a number was made, while it is there.

@@ -9,8 +9,8 @@ ghost use Rattle.sb_services.specs.Registry.{AreKeys, no_keys, on_key, create, o
 use bitflags::Flags;
 use sb_base::{NoMemory, Wide};
 use sb_call::{Answer, Extended, NAME_NOT_FOUND, PATH_NOT_FOUND, SUCCESS};
-use sb_handles::{Access, HandleTable, Held, Object, Service, Sharing};
-use sb_names::{NameTree, Seek, numbers_are_kept};
+use sb_handles::{Access, HandleTable, Held, Service, Sharing};
+use sb_names::{Lookup, NameTree, numbers_are_kept};
 use std::alloc::Global;
 use std::marker::Model;
 
@@ -48,14 +48,7 @@ impl Model for KeyService {
 fn on_key(number: u64, access: Access) -> Held
     ensures { result ≡ on_key number access.0 }
 {
-    Held {
-        object: Object {
-            service: Service::Key,
-            number,
-        },
-        access,
-        sharing: Sharing::empty(),
-    }
+    Held::new(Service::Key, number, access, Sharing::empty())
 }
 
 impl KeyService {
@@ -118,12 +111,12 @@ impl KeyService {
     {
         numbers_are_kept::<u64>();
         match self.names.seek(name) {
-            Seek::NoDirectory => Ok(Answer::refusal(PATH_NOT_FOUND)),
-            Seek::There { object, .. } => {
+            Lookup::NoDirectory => Ok(Answer::refusal(PATH_NOT_FOUND)),
+            Lookup::There { object, .. } => {
                 let handle = handles.grant(target, on_key(object, access))?;
                 Ok(Answer::with_word(SUCCESS, handle, OPENED_EXISTING_KEY))
             }
-            Seek::Absent { directory, .. } => {
+            Lookup::Absent { directory, .. } => {
                 handles.reserve()?;
                 let number = self.made + 1;
                 self.names.add_at(directory, name, number)?;
@@ -156,9 +149,9 @@ impl KeyService {
         ensures err { OnErr result (handles.new.table ≡ handles.old.table) }
     {
         match self.names.seek(name) {
-            Seek::NoDirectory => Ok(Answer::refusal(PATH_NOT_FOUND)),
-            Seek::Absent { .. } => Ok(Answer::refusal(NAME_NOT_FOUND)),
-            Seek::There { object, .. } => {
+            Lookup::NoDirectory => Ok(Answer::refusal(PATH_NOT_FOUND)),
+            Lookup::Absent { .. } => Ok(Answer::refusal(NAME_NOT_FOUND)),
+            Lookup::There { object, .. } => {
                 let handle = handles.grant(target, on_key(object, access))?;
                 Ok(Answer {
                     status: SUCCESS,
@@ -175,7 +168,7 @@ impl KeyService {
         ensures { result ≡ can_start self.now name.now }
     {
         match self.names.seek(name) {
-            Seek::Absent { .. } => true,
+            Lookup::Absent { .. } => true,
             _ => false,
         }
     }
@@ -194,7 +187,7 @@ impl KeyService {
         ensures err { OnErr result (self.new ≡ self.old) }
     {
         numbers_are_kept::<u64>();
-        let Seek::Absent { directory, .. } = self.names.seek(name) else {
+        let Lookup::Absent { directory, .. } = self.names.seek(name) else {
             return Ok(false);
         };
         let number = self.made + 1;

@@ -8,8 +8,8 @@ use Rattle.sb_actor.specs.declared.acts.Act.{Act}
 use Rattle.sb_actor.specs.declared.acts.Act.TheVariants as act
 use Rattle.sb_actor.specs.Observations as seen
 use Rattle.sb_statements.specs.declared.statements.Word.{Word}
-use Rattle.sb_core.specs.Shared.{IsActThere, on_word}
-use Rattle.sb_core.specs.Words.{IsWordThere}
+use Rattle.sb_core.specs.Shared.{IsActThere, Sets, changed, on_word}
+use Rattle.sb_core.specs.Words.{IsWordThere, exchanged}
 use Rattle.sb_statements.specs.declared.schedules.Actor.{Actor}
 use Rattle.sb_core.specs.Worlds.{WorldAt, step}
 use Rattle.sb_shared.specs.Laws.{Laws}
@@ -86,8 +86,8 @@ module _ (laws : Laws) (key : Origin) (slots id : ℕ) (v : View) (out : List (�
         let found = found_is w.shared s.words s.homes r.shows t word near in
         subst (λ z. After (get_or s.words z 0) (set s.words z (either (eqb (get_or s.words z 0) from) to (get_or s.words z 0)))) (sym (spot_is w.shared.words t k word near is))
         (goes (act.Exchange t word from to) e refl n (set s.words here (either (eqb n from) to n)) (ap seen.Value found)
-        (subst (λ z. Shows (record w.shared { words = set w.shared.words t (cond (eqb z from) (set (get_or w.shared.words t []) (word.channel * 65 + word.at) to) (get_or w.shared.words t [])) }) (set s.words here (either (eqb n from) to n)) s.homes) (sym found)
-        (shows_exchange w.shared s.words s.homes r.shows t word near from to (eqb n from) refl))
+        (subst (λ z. Shows (changed w.shared (Sets t word (exchanged z from to))) (set s.words here (either (eqb n from) to n)) s.homes) (sym found)
+        (shows_exchange w.shared s.words s.homes r.shows t word near to (eqb n from)))
         (stop_stays s.words t word.channel word.at (either (eqb n from) to n) near.target near.channel near.low))
 
   may_load : (t : ℕ) (word : Word) → plan_in v.key.script.value p ≡ act.Load t word → MayStep key slots id (v, out) (act.Load t word)

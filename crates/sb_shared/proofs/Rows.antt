@@ -5,7 +5,7 @@ use native.Mathlib.Decide.{ℕ_discrete}
 use mathlib.Core.Option as raw
 use prog.Atomic.{either}
 use Rattle.sb_actor.specs.Moves.{at}
-use Rattle.sb_core.specs.Shared.{SharedAt, with_words}
+use Rattle.sb_core.specs.Shared.{SharedAt, Sets, changed}
 use Rattle.sb_core.specs.Words.{IsWordThere, loaded, stored, words_of}
 use Rattle.sb_statements.specs.declared.statements.Word.{Word}
 use Rattle.sb_shared.specs.Rule.{Shows, Slot, spot, stop_word, turn_word, word_count}
@@ -82,7 +82,7 @@ module _ (s : SharedAt) (words : List ℕ) (homes : List (raw.Option Slot)) (h :
   shows_load = subst (λ z. Shows s z homes) (sym (set-get_or words here 0)) h
 
   -- a store
-  pub shows_store : (x : ℕ) → Shows (with_words s t (stored (words_of s.words t) word x)) (set words here x) homes
+  pub shows_store : (x : ℕ) → Shows (changed s (Sets t word x)) (set words here x) homes
   shows_store x =
       record {
         sized = length-set words here x ∙ h.sized;
@@ -92,8 +92,6 @@ module _ (s : SharedAt) (words : List ℕ) (homes : List (raw.Option Slot)) (h :
       }
 
   -- an exchange
-  pub shows_exchange : (from to : ℕ) (b : Bool) → eqb found from ≡ b
-      → Shows (with_words s t (if b then stored (words_of s.words t) word to else words_of s.words t)) (set words here (either b to found)) homes
-  shows_exchange from to true e = shows_store to
-  shows_exchange from to false e =
-      subst (λ (z : List (List ℕ)). Shows (record s { words = z }) (set words here found) homes) (sym (set-get_or s.words t [])) shows_load
+  pub shows_exchange : (to : ℕ) (b : Bool) → Shows (changed s (Sets t word (if b then to else found))) (set words here (either b to found)) homes
+  shows_exchange to true = shows_store to
+  shows_exchange to false = shows_store found

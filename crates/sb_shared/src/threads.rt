@@ -88,18 +88,12 @@ impl ThreadSeat {
         ensures finished { is_finished script.now self.old.run.thread ≡ true → self.new ≡ self.old }
     {
         core_laws();
-        let direct = self.state.direct_statement(script);
-        let act = self.state.plan(direct);
+        let act = self.state.plan(script);
         let Some(observed) = perform(&world.table.shared, &mut self.seat, act) else {
             return;
         };
-        if self
-            .state
-            .after(script, direct, observed, &mut self.results)
-        {
+        if self.state.after(script, observed, &mut self.results) {
             self.waiting = false;
-        } else if direct.is_some() {
-            self.waiting = true;
         } else {
             self.note_wait(script, act);
         }
@@ -110,10 +104,7 @@ impl ThreadSeat {
         ensures { self.new ≡ record self.old { waiting = repeats act (thread_plan script.now self.old.run.thread) } }
     {
         self.waiting = match act {
-            Act::Load { .. } | Act::Exchange { .. } => {
-                let direct = self.state.direct_statement(script);
-                repeats(act, self.state.plan(direct))
-            }
+            Act::Load { .. } | Act::Exchange { .. } => repeats(act, self.state.plan(script)),
             Act::Store { .. } | Act::Take | Act::Answer | Act::Give | Act::Idle => false,
         };
     }

@@ -4,7 +4,7 @@ ghost use Rattle.std.specs.List.{list_any};
 ghost use Rattle.sb_statements.specs.CleanTables.{clean_at, ClearsWritten, IsCleanTable};
 ghost use Rattle.sb_statements.specs.Scripts.{writes_channel, threads_write};
 
-use crate::limits::{MOST_CHANNELS, MOST_TARGETS};
+use crate::limits::{MAX_CHANNELS, MAX_TARGETS};
 use crate::scripts::{Script, TargetScript};
 use crate::statements::{Statement, Statements};
 use std::marker::Model;
@@ -49,7 +49,7 @@ impl CleanTable {
     fn clear(&mut self, target: u32, channel: u32)
         ensures { ClearsWritten (λ t c. target == t && channel == c) self.old self.new }
     {
-        if (target as usize) < MOST_TARGETS && channel < MOST_CHANNELS {
+        if (target as usize) < MAX_TARGETS && channel < MAX_CHANNELS {
             self.table[target as usize][channel as usize] = false;
         }
     }
@@ -68,30 +68,24 @@ impl CleanTable {
     fn note_statements(&mut self, statements: &[Statement])
         ensures { ClearsWritten (λ t c. list_any (writes_channel t c) statements.now) self.old self.new }
     {
-        let mut rest = statements;
-        while let Some((statement, later)) = rest.split_first() {
+        for statement in statements {
             self.note(statement);
-            rest = later;
         }
     }
 
     fn note_threads(&mut self, threads: &[Statements])
         ensures { ClearsWritten (λ t c. threads_write t c threads.now) self.old self.new }
     {
-        let mut rest = threads;
-        while let Some((statements, later)) = rest.split_first() {
+        for statements in threads {
             self.note_statements(statements);
-            rest = later;
         }
     }
 
     fn note_targets(&mut self, targets: &[TargetScript])
         ensures { ClearsWritten (λ t c. list_any (λ target. threads_write t c target.threads) targets.now) self.old self.new }
     {
-        let mut rest = targets;
-        while let Some((target, later)) = rest.split_first() {
+        for target in targets {
             self.note_threads(&target.threads);
-            rest = later;
         }
     }
 }

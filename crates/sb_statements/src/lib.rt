@@ -2,9 +2,7 @@
 // channels it leaves clean; schedules; and what became of each statement.
 #![tactic(auto)]
 
-mod actors;
 mod clean_tables;
-mod counts;
 mod laws;
 mod limits;
 mod results;
@@ -14,15 +12,14 @@ mod sound_scripts;
 mod soundness;
 mod statements;
 
-pub use actors::is_there;
 pub use clean_tables::{CleanTable, clean_table};
 pub use laws::sound_parts;
 pub use limits::{
-    LAST_PLACE, MOST_CHANNELS, MOST_PATIENCE, MOST_START_LINES, MOST_STATEMENTS, MOST_TARGETS,
-    MOST_THREADS,
+    LAST_PLACE, MAX_CHANNELS, MAX_PATIENCE, MAX_START_LINES, MAX_STATEMENTS, MAX_TARGETS,
+    MAX_THREADS,
 };
 pub use results::{CallResult, StmtResult};
-pub use schedules::{Actor, Schedule, Steps};
+pub use schedules::{Actor, Schedule, Steps, is_there};
 pub use scripts::{Script, StartLine, StartLines, TargetScript, Targets, clean};
 pub use sound_scripts::SoundScript;
 pub use soundness::sound;

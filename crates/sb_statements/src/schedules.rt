@@ -1,5 +1,8 @@
 // Who makes the steps of a run on one thread, and in which order.
+ghost use Rattle.std.specs.Prelude.{◌≡◌};
+ghost use Rattle.sb_statements.specs.Actors.{is_there};
 
+use crate::scripts::Script;
 use sb_base::Items;
 
 /// Who makes a step. Targets and threads are numbered from 0.
@@ -29,5 +32,18 @@ impl Drop for Schedule {
             steps: _,
             rounds: _,
         } = self;
+    }
+}
+
+/// Whether a script has the actor: the target is there, and so is its thread.
+pub fn is_there(script: &Script, actor: Actor) -> bool
+    ensures { result ≡ is_there script.now.targets actor }
+{
+    match actor {
+        Actor::Worker { target } => (target as usize) < script.targets.len(),
+        Actor::Thread { target, thread } => match script.targets.get(target as usize) {
+            Some(found) => (thread as usize) < found.threads.len(),
+            None => false,
+        },
     }
 }

@@ -1,11 +1,12 @@
 // Scripts that are known to be sound.
-ghost use Rattle.std.specs.Prelude.{◌≡◌, true, false, IfOk, IfErr};
+ghost use Rattle.std.specs.Prelude.{◌≡◌, true, false, IfOk, IfErr, ◌<◌, ◌≤◌, length, slice_get};
 ghost use Rattle.std.specs.List.{list_all};
 ghost use Rattle.sb_block.specs.Blocks.{has_units};
 ghost use Rattle.sb_base.specs.Wide.{is_unit};
-ghost use Rattle.sb_statements.specs.Soundness.{is_sound};
+ghost use Rattle.sb_statements.specs.Soundness.{is_sound, channels_of};
 ghost use Rattle.sb_statements.specs.SoundScripts.{IsSoundScript, has_short_name, has_short_names, is_sound_script};
 ghost use Rattle.sb_statements.specs.Units.{script_has_units, statement_has_units, target_has_units, thread_has_units};
+ghost use Rattle.sb_statements.specs.Actors.{thread_count};
 
 use crate::scripts::{Script, TargetScript};
 use crate::soundness::sound;
@@ -161,5 +162,40 @@ impl Deref for SoundScript {
     #[inline(always)]
     fn deref(&self) -> &Script {
         &self.script
+    }
+}
+
+impl SoundScript {
+    /// How many targets the script has: at most 8.
+    #[tactic(auto, using(crate::proofs::Bounds::few_targets))]
+    pub fn target_count(&self) -> u32
+        ensures count { result ≡ length self.now.targets }
+        ensures few { result ≤ 8 }
+    {
+        self.establish_sound();
+        self.targets.len() as u32
+    }
+
+    /// How many channels a target has, which must be there: 1 to 8.
+    #[tactic(auto, using(crate::proofs::Bounds::some_channels))]
+    pub fn channel_count(&self, target: u32) -> u32
+        requires there { target < length self.now.targets }
+        ensures count { result ≡ channels_of (slice_get self.now.targets target) }
+        ensures some { 0 < result }
+        ensures few { result ≤ 8 }
+    {
+        self.establish_sound();
+        self.targets[target as usize].channels
+    }
+
+    /// How many threads a target has, which must be there: at most 4.
+    #[tactic(auto, using(crate::proofs::Bounds::few_threads))]
+    pub fn thread_count(&self, target: u32) -> u32
+        requires there { target < length self.now.targets }
+        ensures count { result ≡ thread_count (slice_get self.now.targets target) }
+        ensures few { result ≤ 4 }
+    {
+        self.establish_sound();
+        self.targets[target as usize].threads.len() as u32
     }
 }

@@ -5,8 +5,8 @@ ghost use Rattle.std.specs.Cmp.Lexicographic.{pointwise};
 ghost use Rattle.sb_statements.specs.Soundness.{is_sound, is_patience, is_start, has_word, is_statement, is_thread, is_target, names_differ, are_targets};
 
 use crate::limits::{
-    LAST_PLACE, MOST_CHANNELS, MOST_PATIENCE, MOST_START_LINES, MOST_STATEMENTS, MOST_TARGETS,
-    MOST_THREADS,
+    LAST_PLACE, MAX_CHANNELS, MAX_PATIENCE, MAX_START_LINES, MAX_STATEMENTS, MAX_TARGETS,
+    MAX_THREADS,
 };
 use crate::scripts::{Script, StartLine, TargetScript};
 use crate::statements::{Statement, Statements, Word};
@@ -17,7 +17,7 @@ use sb_call::ShortName;
 fn is_patience(count: u32) -> bool
     ensures { result ≡ is_patience count }
 {
-    count >= 1 && count <= MOST_PATIENCE
+    count >= 1 && count <= MAX_PATIENCE
 }
 
 fn is_start(line: &StartLine) -> bool
@@ -79,7 +79,7 @@ fn are_statements(targets: &[TargetScript], statements: &[Statement]) -> bool
 fn is_thread(targets: &[TargetScript], statements: &Statements) -> bool
     ensures { result ≡ is_thread targets.now statements.now }
 {
-    statements.len() <= MOST_STATEMENTS && are_statements(targets, statements.as_slice())
+    statements.len() <= MAX_STATEMENTS && are_statements(targets, statements.as_slice())
 }
 
 fn are_threads(targets: &[TargetScript], threads: &[Statements]) -> bool
@@ -94,8 +94,8 @@ fn is_target(targets: &[TargetScript], target: &TargetScript) -> bool
     ensures { result ≡ is_target targets.now target.now }
 {
     target.channels >= 1
-        && target.channels <= MOST_CHANNELS
-        && target.threads.len() <= MOST_THREADS
+        && target.channels <= MAX_CHANNELS
+        && target.threads.len() <= MAX_THREADS
         && are_threads(targets, target.threads.as_slice())
 }
 
@@ -127,7 +127,7 @@ fn each_is_target(targets: &[TargetScript]) -> bool
 fn are_targets(targets: &[TargetScript]) -> bool
     ensures { result ≡ are_targets targets.now }
 {
-    targets.len() <= MOST_TARGETS && names_differ(targets) && each_is_target(targets)
+    targets.len() <= MAX_TARGETS && names_differ(targets) && each_is_target(targets)
 }
 
 /// Whether a script is sound. Does not allocate. A sound script has
@@ -142,7 +142,7 @@ pub fn sound(script: &Script) -> bool
 {
     let start = script.start.as_slice();
     is_patience(script.patience)
-        && start.len() <= MOST_START_LINES
+        && start.len() <= MAX_START_LINES
         && are_starts(start)
         && are_targets(script.targets.as_slice())
 }

@@ -13,7 +13,7 @@ use sb_book::{ReadyScript, Report};
 use sb_compile::Programs;
 use sb_rows::RowFault;
 use sb_rule::Judge;
-use sb_scripttext::MOST_ROUNDS;
+use sb_scripttext::MAX_ROUNDS;
 use sb_shared::{Keeper, SharedWorld, Stop, ThreadSeat, WorkerSeat};
 use sb_statements::{Schedule, SoundScript, Steps};
 use std::alloc::Global;
@@ -22,7 +22,7 @@ use std::thread;
 use std::thread::Threads;
 
 // As many steps as an actor makes at most.
-const MOST_STEPS: u64 = 1_000_000_000_000;
+const MAX_STEPS: u64 = 1_000_000_000_000;
 // After as many steps others may go on. With fewer, threads that share a processor spend much of their time in yields.
 const TURN: u64 = 8192;
 
@@ -33,7 +33,7 @@ fn finish(world: &SharedWorld, script: &SoundScript, seat: &mut ThreadSeat, step
     ensures { IsSameThread seat.old seat.new }
 {
     let mut made: u64 = 0;
-    for step in 0..MOST_STEPS {
+    for step in 0..MAX_STEPS {
         if seat.is_finished() {
             break;
         }
@@ -189,7 +189,7 @@ fn left_together<R: Threads + Sync>(
 fn by_rounds(alloc: Global, inputs: &ReadyScript) -> Result<Report, RowFault> {
     let schedule = Schedule {
         steps: Steps::empty(alloc),
-        rounds: MOST_ROUNDS,
+        rounds: MAX_ROUNDS,
     };
     core_report(alloc, inputs, &schedule)
 }
@@ -206,7 +206,7 @@ pub fn told_threads<R: Threads + Sync>(
     let steps = AtomicU64::new(0);
     // Workers make no steps unless calls are served.
     let most = match what {
-        "words" | "results" => MOST_STEPS,
+        "words" | "results" => MAX_STEPS,
         _ => 0,
     };
     let left = left_together(rt, alloc, inputs, most, &steps)?;

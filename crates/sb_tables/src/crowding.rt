@@ -3,7 +3,7 @@ ghost use Rattle.std.specs.Prelude.{◌≡◌, true};
 ghost use Rattle.sb_base.specs.Names.{is_name_of};
 
 use sb_base::{NoMemory, Wide, is_name};
-use sb_names::{NameTree, Seek, is_below};
+use sb_names::{Lookup, NameTree, is_below};
 use sb_rows::RowFault;
 use std::alloc::Global;
 
@@ -144,7 +144,7 @@ fn rename_all(tree: &mut NameTree, old: &[Wide], new: &[Wide]) -> Result<u64, No
 fn add(tree: &mut NameTree, name: &[u16]) -> Result<bool, NoMemory>
     requires { is_name_of name.now ≡ true }
 {
-    let Seek::Absent { directory, .. } = tree.seek(name) else {
+    let Lookup::Absent { directory, .. } = tree.seek(name) else {
         return Ok(false);
     };
     tree.add_at(directory, name, 1)?;
@@ -156,7 +156,7 @@ fn is_there(tree: &NameTree, name: &[u16]) -> bool
     requires { is_name_of name.now ≡ true }
 {
     match tree.seek(name) {
-        Seek::There { .. } => true,
+        Lookup::There { .. } => true,
         _ => false,
     }
 }
@@ -166,13 +166,13 @@ fn rename(tree: &mut NameTree, from: &[u16], to: &[u16]) -> Result<bool, NoMemor
     requires from { is_name_of from.now ≡ true }
     requires to { is_name_of to.now ≡ true }
 {
-    let Seek::There { node, .. } = tree.seek(from) else {
+    let Lookup::There { node, .. } = tree.seek(from) else {
         return Ok(false);
     };
     if is_below(from, to) {
         return Ok(false);
     }
-    let Seek::Absent { directory, .. } = tree.seek(to) else {
+    let Lookup::Absent { directory, .. } = tree.seek(to) else {
         return Ok(false);
     };
     tree.rename_at(node, directory, from, to)?;

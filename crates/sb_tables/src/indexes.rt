@@ -3,7 +3,7 @@
 use sb_call::CallTag;
 use sb_index::{Index, RuleSet};
 use sb_rows::{RowFault, call, number, wide};
-use sb_rule::{Action, Cond, Conds, MOST_RULES, Rule, Rules, Test};
+use sb_rule::{Action, Cond, Conds, MAX_RULES, Rule, Rules, Test};
 use std::alloc::Global;
 
 /// The numbers of the rules that an index leaves for a call, where this many rules allow `file.open`, each for one name: this text and the
@@ -16,7 +16,7 @@ pub fn candidates(alloc: Global, text: &str, count: &str, name: &str) -> Result<
 // The rules that their index leaves for a call.
 fn left_for(alloc: Global, text: &str, rules: &Rules) -> Result<RuleSet, RowFault> {
     let (tag, args) = call(alloc, text)?;
-    if rules.len() > MOST_RULES {
+    if rules.len() > MAX_RULES {
         return Err(RowFault::TooMany);
     }
     let index = Index::new(alloc, rules, tag)?;

@@ -23,7 +23,7 @@ policy none
 ";
 
 // As many bytes as the sandbox reads of a script or a schedule.
-const MOST_BYTES: usize = 4_194_304;
+const MAX_BYTES: usize = 4_194_304;
 
 // Lines that rows separate by semicolons, after a first line, each with this word before it.
 fn lines(alloc: Global, first: &str, word: &str, text: &str) -> Result<String, RowFault> {
@@ -33,7 +33,7 @@ fn lines(alloc: Global, first: &str, word: &str, text: &str) -> Result<String, R
             write!(out, "{word}{line}\n")?;
         }
     }
-    if out.len() > MOST_BYTES {
+    if out.len() > MAX_BYTES {
         return Err(RowFault::TooMany);
     }
     Ok(out)
@@ -64,7 +64,7 @@ pub fn read_inputs<R: Files + AllocGlobal>(
 // A script that is ready for policies, by their texts.
 fn ready_by(alloc: Global, policy: &[u8], script: &[u8]) -> Result<ReadyScript, RowFault> {
     let policies = policies_of(alloc, policy)?;
-    if script.len() > MOST_BYTES {
+    if script.len() > MAX_BYTES {
         return Err(RowFault::TooMany);
     }
     match read_script(alloc, script, policies) {
@@ -87,7 +87,7 @@ pub fn policies_of_rules(alloc: Global, rules: &str) -> Result<WellMadePolicies,
 
 // The policies of a text.
 fn policies_of(alloc: Global, policy: &[u8]) -> Result<WellMadePolicies, RowFault> {
-    if policy.len() > MOST_BYTES {
+    if policy.len() > MAX_BYTES {
         return Err(RowFault::TooMany);
     }
     match read_policies(alloc, policy) {
@@ -115,7 +115,7 @@ pub fn schedule_of(alloc: Global, text: &str, script: &Script) -> Result<Schedul
 {
     let mut text = lines(alloc, "sandbox-schedule 1\n", "step ", text)?;
     text.push_str("rounds 0\n")?;
-    if text.len() > MOST_BYTES {
+    if text.len() > MAX_BYTES {
         return Err(RowFault::TooMany);
     }
     match read_schedule(alloc, text.as_str().as_bytes(), script) {

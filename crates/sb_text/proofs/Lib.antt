@@ -7,11 +7,10 @@ pub mod TokenLaws
 pub mod QuotedText
 pub mod Utf8Laws
 pub mod Values
-pub mod WordCounts
 mod WordLemmas
 mod ReadingLaws
 pub mod PlainLines
 pub mod WrittenStrings
 pub mod QuotedStrings
-pub mod Places
-pub mod SpotLaws
+pub mod ColumnLaws
+pub mod TokenCuts

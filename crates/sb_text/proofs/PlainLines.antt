@@ -16,7 +16,6 @@ use Rattle.sb_text.specs.Lines.{is_blank, is_skipped, has_cr, without_cr, lines_
 use Rattle.sb_text.specs.PlainLines.{is_plain_byte, is_plain, is_plain_line, line_text, numbered, PlainLinesAreUtf8, PlainLinesAreRead, PlainTokensAreRead, PlainWordsAreRead}
 use Rattle.sb_text.specs.TokenLaws.{is_word_byte, is_quoted_byte, is_writable, written_token, written_line}
 use Rattle.sb_text.specs.Tokens.{Lexeme, Word, Quoted, Bad}
-use Rattle.sb_text.specs.Words.{words_of}
 use Rattle.sb_text.proofs.Conjunctions.{both, and_true}
 
 all_more : {A : Type 0} (p q : A → Bool) → ((x : A) → p x ≡ true → q x ≡ true) → (xs : List A) → list_all p xs ≡ true → list_all q xs ≡ true
@@ -183,16 +182,6 @@ tokens_back tokens h = written tokens (all_more is_plain is_writable writable to
 
 -- the words of a line
 
--- the bytes of a token
-abbrev bytes_of : Lexeme → List ℕ
-bytes_of (Word w) = w
-bytes_of (Quoted q) = q
-bytes_of Bad = []
-
-bytes_back : (words : List (List ℕ)) → map bytes_of (map Word words) ≡ words
-bytes_back [] = refl
-bytes_back (w ∷ words) = ap (λ rest. w ∷ rest) (bytes_back words)
-
 no_quote : (b : ℕ) → is_plain_byte b ≡ true → not (b == 34) ≡ true
 no_quote b h = grind (arith, nat_tests)
 
@@ -206,7 +195,4 @@ unquoted (w ∷ next ∷ words) h =
 -- a line of plain words has these words
 pub words_back : PlainWordsAreRead
 words_back words h =
-    let line = written_line (map Word words) in
-    sym (bytes_back (words_of line))
-    ∙ ap (λ (tokens : List Lexeme). map bytes_of tokens) (sym (plain line (unquoted words (plain_tokens (map Word words) h))) ∙ tokens_back (map Word words) h)
-    ∙ bytes_back words
+    sym (plain (written_line (map Word words)) (unquoted words (plain_tokens (map Word words) h))) ∙ tokens_back (map Word words) h

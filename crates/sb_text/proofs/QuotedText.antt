@@ -9,7 +9,7 @@ use Rattle.std.specs.Str.{IsUtf8, is_utf8}
 use Rattle.std.specs.Str.Lossy.{utf8_valid_len, valid_len_up_to}
 use Rattle.sb_text.specs.Lines.{is_blank, is_skipped, has_cr, without_cr, raw_lines, lines_from}
 use Rattle.sb_text.specs.TokenLaws.{is_quoted_byte, is_quoted_text, has_quoted_text, QuotedTokensAreText}
-use Rattle.sb_text.specs.Tokens.{Word, Quoted, Bad, Place, Between, InWord, InQuote, AfterQuote, scan}
+use Rattle.sb_text.specs.Tokens.{Word, Quoted, Next, Spot, Between, InWord, InQuote, AfterQuote, broken, by_tokens, lexemes, scan}
 use Rattle.sb_text.specs.Utf8.{first_place, not_utf8_place, place_after}
 use Rattle.sb_text.proofs.Conjunctions.{both, and_true}
 use Rattle.sb_text.proofs.TokenLaws.{all_more, quoted_byte}
@@ -119,54 +119,63 @@ blank_small b k = grind (arith, nat_tests)
 quote_small : (b : ℕ) → (b == 34) ≡ true → b < 128
 quote_small b k = grind (arith, nat_tests)
 
--- what is held at a place, and the rest of the line, are text
-abbrev Holds : Place → List ℕ → Type 0
-Holds Between line = IsUtf8 line
-Holds (InWord w) line = IsUtf8 (w ++ line)
-Holds (InQuote q) line = IsUtf8 (q ++ line) × (list_all is_quoted_byte q ≡ true)
-Holds (AfterQuote q) line = (is_quoted_text (Quoted q) ≡ true) × IsUtf8 line
+-- what is held at a spot, and the rest of the line, are text
+abbrev Holds : Spot → List ℕ → Type 0
+Holds (Between end) line = IsUtf8 line
+Holds (InWord place w) line = IsUtf8 (w ++ line)
+Holds (InQuote place q) line = IsUtf8 (q ++ line) × (list_all is_quoted_byte q ≡ true)
+Holds (AfterQuote place q) line = (is_quoted_text (Quoted q) ≡ true) × IsUtf8 line
 
-text_from : (p : Place) (line : List ℕ) → Holds p line → list_all is_quoted_text (scan p line) ≡ true
-text_from Between [] h = refl
-text_from (InWord w) [] h = refl
-text_from (InQuote q) [] h = refl
-text_from (AfterQuote q) [] h = and_true _ _ h.0 refl
-text_from Between (b ∷ line) h =
-    by_first (is_blank b) (b == 34) refl refl (text_from Between line) (text_from (InQuote []) line) (text_from (InWord (b ∷ [])) line)
+-- so is what the quoted tokens from there on hold
+abbrev IsText : Spot → List ℕ → Type 0
+IsText p line = list_all is_quoted_text (lexemes (scan by_tokens p line)) ≡ true
+
+text_from : (p : Spot) (line : List ℕ) → Holds p line → IsText p line
+text_from (Between end) [] h = refl
+text_from (InWord place w) [] h = refl
+text_from (InQuote place q) [] h = refl
+text_from (AfterQuote place q) [] h = and_true _ _ h.0 refl
+text_from (Between end) (b ∷ line) h =
+    by_first (is_blank b) (b == 34) refl refl (text_from (Between end) line) (text_from (InQuote (length (b ∷ line)) []) line)
+    (text_from (InWord (length (b ∷ line)) (b ∷ [])) line)
   where
     by_first : (s t : Bool) → is_blank b ≡ s → (b == 34) ≡ t
-        → (Holds Between line → list_all is_quoted_text (scan Between line) ≡ true)
-        → (Holds (InQuote []) line → list_all is_quoted_text (scan (InQuote []) line) ≡ true)
-        → (Holds (InWord (b ∷ [])) line → list_all is_quoted_text (scan (InWord (b ∷ [])) line) ≡ true)
-        → list_all is_quoted_text (cond s (scan Between line) (cond t (scan (InQuote []) line) (scan (InWord (b ∷ [])) line))) ≡ true
+        → (Holds (Between end) line → IsText (Between end) line)
+        → (Holds (InQuote (length (b ∷ line)) []) line → IsText (InQuote (length (b ∷ line)) []) line)
+        → (Holds (InWord (length (b ∷ line)) (b ∷ [])) line → IsText (InWord (length (b ∷ line)) (b ∷ [])) line)
+        → list_all is_quoted_text (lexemes (cond s (scan by_tokens (Between end) line)
+        (cond t (scan by_tokens (InQuote (length (b ∷ line)) []) line) (scan by_tokens (InWord (length (b ∷ line)) (b ∷ [])) line)))) ≡ true
     by_first true t k l e f g = e (cut [] b line (blank_small b k) h).1
     by_first false true k l e f g = f ((cut [] b line (quote_small b l) h).1, refl)
     by_first false false k l e f g = g h
-text_from (InWord w) (b ∷ line) h = by_first (is_blank b) (b == 34) refl (text_from Between line) (text_from (InWord (w ++ b ∷ [])) line)
+text_from (InWord place w) (b ∷ line) h =
+    by_first (is_blank b) (b == 34) refl (text_from (Between (length (b ∷ line))) line) (text_from (InWord place (w ++ b ∷ [])) line)
   where
     by_first : (s t : Bool) → is_blank b ≡ s
-        → (Holds Between line → list_all is_quoted_text (scan Between line) ≡ true)
-        → (Holds (InWord (w ++ b ∷ [])) line → list_all is_quoted_text (scan (InWord (w ++ b ∷ [])) line) ≡ true)
-        → list_all is_quoted_text (cond s (Word w ∷ scan Between line) (cond t (Bad ∷ []) (scan (InWord (w ++ b ∷ [])) line))) ≡ true
+        → (Holds (Between (length (b ∷ line))) line → IsText (Between (length (b ∷ line))) line)
+        → (Holds (InWord place (w ++ b ∷ [])) line → IsText (InWord place (w ++ b ∷ [])) line)
+        → list_all is_quoted_text (lexemes (cond s (Next place (Word w) (scan by_tokens (Between (length (b ∷ line))) line))
+        (cond t (broken place) (scan by_tokens (InWord place (w ++ b ∷ [])) line)))) ≡ true
     by_first true t k e g = e (cut w b line (blank_small b k) h).1
     by_first false true k e g = refl
     by_first false false k e g = g (subst IsUtf8 (sym (append_assoc w (b ∷ []) line)) h)
-text_from (InQuote q) (b ∷ line) h =
-    by_first (b == 34) (nat_lt b 32) refl refl (text_from (AfterQuote q) line) (text_from (InQuote (q ++ b ∷ [])) line)
+text_from (InQuote place q) (b ∷ line) h =
+    by_first (b == 34) (nat_lt b 32) refl refl (text_from (AfterQuote place q) line) (text_from (InQuote place (q ++ b ∷ [])) line)
   where
     by_first : (s t : Bool) → (b == 34) ≡ s → nat_lt b 32 ≡ t
-        → (Holds (AfterQuote q) line → list_all is_quoted_text (scan (AfterQuote q) line) ≡ true)
-        → (Holds (InQuote (q ++ b ∷ [])) line → list_all is_quoted_text (scan (InQuote (q ++ b ∷ [])) line) ≡ true)
-        → list_all is_quoted_text (cond s (scan (AfterQuote q) line) (cond t (Bad ∷ []) (scan (InQuote (q ++ b ∷ [])) line))) ≡ true
+        → (Holds (AfterQuote place q) line → IsText (AfterQuote place q) line)
+        → (Holds (InQuote place (q ++ b ∷ [])) line → IsText (InQuote place (q ++ b ∷ [])) line)
+        → list_all is_quoted_text (lexemes (cond s (scan by_tokens (AfterQuote place q) line)
+        (cond t (broken place) (scan by_tokens (InQuote place (q ++ b ∷ [])) line)))) ≡ true
     by_first true t k l e g =
         let parts = cut q b line (quote_small b k) h.0 in
         e (and_true _ _ (is_utf8-from_IsUtf8 q parts.0) h.1, parts.1)
     by_first false true k l e g = refl
     by_first false false k l e g = g (subst IsUtf8 (sym (append_assoc q (b ∷ []) line)) h.0, all_more is_quoted_byte q b h.1 (quoted_byte b k l))
-text_from (AfterQuote q) (b ∷ line) h = by_first (is_blank b) refl (text_from Between line)
+text_from (AfterQuote place q) (b ∷ line) h = by_first (is_blank b) refl (text_from (Between (length (b ∷ line))) line)
   where
-    by_first : (s : Bool) → is_blank b ≡ s → (Holds Between line → list_all is_quoted_text (scan Between line) ≡ true)
-        → list_all is_quoted_text (cond s (Quoted q ∷ scan Between line) (Bad ∷ [])) ≡ true
+    by_first : (s : Bool) → is_blank b ≡ s → (Holds (Between (length (b ∷ line))) line → IsText (Between (length (b ∷ line))) line)
+        → list_all is_quoted_text (lexemes (cond s (Next place (Quoted q) (scan by_tokens (Between (length (b ∷ line))) line)) (broken place))) ≡ true
     by_first true k e = and_true _ _ h.0 (e (cut [] b line (blank_small b k) h.1).1)
     by_first false k e = refl
 
@@ -174,9 +183,9 @@ saying_lines : (n : ℕ) (lines : List (List ℕ)) → list_all is_utf8 lines �
 saying_lines n [] h = refl
 saying_lines n (line ∷ lines) h =
     let parts = both (is_utf8 line) (list_all is_utf8 lines) h in
-    by_skip (is_skipped (without_cr line)) (text_from Between (without_cr line) (text_without_cr line (IsUtf8-from_is_utf8 line parts.0))) (saying_lines (n + 1) lines parts.1)
+    by_skip (is_skipped (without_cr line)) (text_from (Between (length (without_cr line))) (without_cr line) (text_without_cr line (IsUtf8-from_is_utf8 line parts.0))) (saying_lines (n + 1) lines parts.1)
   where
-    by_skip : (t : Bool) → list_all is_quoted_text (scan Between (without_cr line)) ≡ true → list_all has_quoted_text (lines_from (n + 1) lines) ≡ true
+    by_skip : (t : Bool) → IsText (Between (length (without_cr line))) (without_cr line) → list_all has_quoted_text (lines_from (n + 1) lines) ≡ true
         → list_all has_quoted_text (cond t (lines_from (n + 1) lines) (record { number = n; text = without_cr line } ∷ lines_from (n + 1) lines)) ≡ true
     by_skip true here later = later
     by_skip false here later = and_true _ _ here later

@@ -14,7 +14,7 @@ use Rattle.sb_base.specs.Refusals.{Gives}
 use Rattle.sb_text.specs.Steps.{◌>>=◌, on_value, Becomes}
 use Rattle.sb_text.specs.declared.refusals.LineFault.{LineFault}
 use Rattle.sb_text.specs.declared.refusals.TokenFault.{TokenFault}
-use Rattle.sb_text.specs.declared.spots.Layout.{Layout}
+use Rattle.sb_text.specs.declared.columns.Layout.{Layout}
 use Rattle.sb_base.specs.declared.refusals.Refused.{Refused}
 use Rattle.sb_base.specs.declared.refusals.Refused.TheVariants.{Fault, NoMemory}
 

@@ -4,30 +4,102 @@ use Rattle.std.proofs.lemmas.Grind.{common_steps}
 use Rattle.std.proofs.lemmas.Bool.{false≢true}
 use Rattle.std.proofs.lemmas.Bool.Decides.{nat_tests}
 use Rattle.std.proofs.lemmas.List.{append_assoc, append-nil}
-use Rattle.std.specs.List.{filter, list_all, onto_first, slice_split}
+use Rattle.std.specs.List.{list_all}
 use Rattle.sb_text.specs.Lines.{is_blank, is_skipped}
-use Rattle.sb_text.specs.Tokens.{Lexeme, Word, Quoted, Bad, Place, Between, InWord, InQuote, AfterQuote, scan, tokens_of}
-use Rattle.sb_text.specs.Words.{is_some_word, words_of}
-use Rattle.sb_text.specs.TokenLaws.{is_word_byte, is_quoted_byte, is_writable, written_token, written_line, are_found, is_quotable, first_byte, WrittenTokensAreRead, TokenIsReadBeforeBlank, BrokenTokensAreBad, BlanksAreNothing, TokensAreFound, PlainLinesHaveWords, SayingLinesHaveTokens, FirstTokenSkips}
+use Rattle.sb_text.specs.Tokens.{Lexeme, Lexemes, Word, Quoted, Bad, Next, End, Spot, Between, InWord, InQuote, AfterQuote, broken, by_tokens, by_words, lexemes, scan, tokens_of}
+use Rattle.sb_text.specs.TokenLaws.{is_some_word, is_word_byte, is_quoted_byte, is_writable, written_token, written_line, placed, is_parted, are_found, is_quotable, first_byte, WrittenTokensAreRead, TokenIsReadBeforeBlank, BrokenTokensAreBad, BlanksAreNothing, TokensAreFound, PlainLinesHaveWords, SayingLinesHaveTokens, FirstTokenSkips}
 use Rattle.sb_text.proofs.Conjunctions.{both, and_true}
 
--- a blank at the end
+-- a blank at either end
 
-last_blank : (b : ℕ) (p : Place) (line : List ℕ) → is_blank b ≡ true → scan p (line ++ b ∷ []) ≡ scan p line
-last_blank b Between [] h = rw (h) refl
-last_blank b (InWord w) [] h = rw (h) refl
-last_blank b (InQuote w) [] h = grind (arith, nat_tests, common_steps)
-last_blank b (AfterQuote w) [] h = rw (h) refl
-last_blank b Between (c ∷ line) h = rw (last_blank b Between line h, last_blank b (InQuote []) line h, last_blank b (InWord (c ∷ [])) line h) refl
-last_blank b (InWord w) (c ∷ line) h = rw (last_blank b Between line h, last_blank b (InWord (w ++ c ∷ [])) line h) refl
-last_blank b (InQuote w) (c ∷ line) h = rw (last_blank b (AfterQuote w) line h, last_blank b (InQuote (w ++ c ∷ [])) line h) refl
-last_blank b (AfterQuote w) (c ∷ line) h = rw (last_blank b Between line h) refl
+-- the tokens do not depend on places
+any_place : (m n : ℕ) (line : List ℕ) → lexemes (scan by_tokens (Between m) line) ≡ lexemes (scan by_tokens (Between n) line)
+any_place m n [] = refl
+any_place m n (b ∷ line) = by_first (is_blank b) (any_place m n line)
+  where
+    by_first : (t : Bool) → lexemes (scan by_tokens (Between m) line) ≡ lexemes (scan by_tokens (Between n) line)
+        → lexemes (cond t (scan by_tokens (Between m) line) (cond (b == 34) (scan by_tokens (InQuote (length (b ∷ line)) []) line) (scan by_tokens (InWord (length (b ∷ line)) (b ∷ [])) line)))
+        ≡ lexemes (cond t (scan by_tokens (Between n) line) (cond (b == 34) (scan by_tokens (InQuote (length (b ∷ line)) []) line) (scan by_tokens (InWord (length (b ∷ line)) (b ∷ [])) line)))
+    by_first true e = e
+    by_first false e = refl
 
-first_blank : (b : ℕ) (line : List ℕ) → is_blank b ≡ true → tokens_of (b ∷ line) ≡ tokens_of line
-first_blank b line h = rw (h) refl
+-- the same spot with another place
+abbrev placed_at : ℕ → Spot → Spot
+placed_at n (Between end) = Between n
+placed_at n (InWord place w) = InWord n w
+placed_at n (InQuote place w) = InQuote n w
+placed_at n (AfterQuote place w) = AfterQuote n w
+
+abbrev Same : List ℕ → List ℕ → ℕ → Spot → Type 0
+Same more line n p = lexemes (scan by_tokens (placed_at n p) more) ≡ lexemes (scan by_tokens p line)
+
+last_blank : (b : ℕ) (p : Spot) (line : List ℕ) → is_blank b ≡ true → (n : ℕ) → Same (line ++ b ∷ []) line n p
+last_blank b (Between m) [] h n = rw (h) refl
+last_blank b (InWord m w) [] h n = rw (h) refl
+last_blank b (InQuote m w) [] h n = by_byte (b == 34) (nat_lt b 32) refl
+  where
+    by_byte : (t u : Bool) → (b == 34) ≡ t → lexemes (cond t (Next n (Quoted w) (End 0)) (cond u (broken n) (broken n))) ≡ Bad ∷ []
+    by_byte true u k = absurd (grind (arith, nat_tests, h, k))
+    by_byte false true k = refl
+    by_byte false false k = refl
+last_blank b (AfterQuote m w) [] h n = rw (h) refl
+last_blank b (Between m) (c ∷ line) h n =
+    by_byte (is_blank c) (c == 34) (last_blank b (Between m) line h n)
+    (last_blank b (InQuote (length (c ∷ line)) []) line h (length (c ∷ (line ++ b ∷ []))))
+    (last_blank b (InWord (length (c ∷ line)) (c ∷ [])) line h (length (c ∷ (line ++ b ∷ []))))
+  where
+    more : ℕ
+    more = length (c ∷ (line ++ b ∷ []))
+
+    by_byte : (t u : Bool) → Same (line ++ b ∷ []) line n (Between m) → Same (line ++ b ∷ []) line more (InQuote (length (c ∷ line)) [])
+        → Same (line ++ b ∷ []) line more (InWord (length (c ∷ line)) (c ∷ []))
+        → lexemes (cond t (scan by_tokens (Between n) (line ++ b ∷ []))
+        (cond u (scan by_tokens (InQuote more []) (line ++ b ∷ [])) (scan by_tokens (InWord more (c ∷ [])) (line ++ b ∷ []))))
+        ≡ lexemes (cond t (scan by_tokens (Between m) line)
+        (cond u (scan by_tokens (InQuote (length (c ∷ line)) []) line) (scan by_tokens (InWord (length (c ∷ line)) (c ∷ [])) line)))
+    by_byte true u e f g = e
+    by_byte false true e f g = f
+    by_byte false false e f g = g
+last_blank b (InWord m w) (c ∷ line) h n =
+    by_byte (is_blank c) (c == 34) (last_blank b (Between (length (c ∷ line))) line h (length (c ∷ (line ++ b ∷ []))))
+    (last_blank b (InWord m (w ++ c ∷ [])) line h n)
+  where
+    more : ℕ
+    more = length (c ∷ (line ++ b ∷ []))
+
+    by_byte : (t u : Bool) → Same (line ++ b ∷ []) line more (Between (length (c ∷ line))) → Same (line ++ b ∷ []) line n (InWord m (w ++ c ∷ []))
+        → lexemes (cond t (Next n (Word w) (scan by_tokens (Between more) (line ++ b ∷ [])))
+        (cond u (broken n) (scan by_tokens (InWord n (w ++ c ∷ [])) (line ++ b ∷ []))))
+        ≡ lexemes (cond t (Next m (Word w) (scan by_tokens (Between (length (c ∷ line))) line)) (cond u (broken m) (scan by_tokens (InWord m (w ++ c ∷ [])) line)))
+    by_byte true u e f = ap (λ (ts : List Lexeme). Word w ∷ ts) e
+    by_byte false true e f = refl
+    by_byte false false e f = f
+last_blank b (InQuote m w) (c ∷ line) h n =
+    by_byte (c == 34) (nat_lt c 32) (last_blank b (AfterQuote m w) line h n) (last_blank b (InQuote m (w ++ c ∷ [])) line h n)
+  where
+    by_byte : (t u : Bool) → Same (line ++ b ∷ []) line n (AfterQuote m w) → Same (line ++ b ∷ []) line n (InQuote m (w ++ c ∷ []))
+        → lexemes (cond t (scan by_tokens (AfterQuote n w) (line ++ b ∷ [])) (cond u (broken n) (scan by_tokens (InQuote n (w ++ c ∷ [])) (line ++ b ∷ []))))
+        ≡ lexemes (cond t (scan by_tokens (AfterQuote m w) line) (cond u (broken m) (scan by_tokens (InQuote m (w ++ c ∷ [])) line)))
+    by_byte true u e f = e
+    by_byte false true e f = refl
+    by_byte false false e f = f
+last_blank b (AfterQuote m w) (c ∷ line) h n =
+    by_byte (is_blank c) (last_blank b (Between (length (c ∷ line))) line h (length (c ∷ (line ++ b ∷ []))))
+  where
+    more : ℕ
+    more = length (c ∷ (line ++ b ∷ []))
+
+    by_byte : (t : Bool) → Same (line ++ b ∷ []) line more (Between (length (c ∷ line)))
+        → lexemes (cond t (Next n (Quoted w) (scan by_tokens (Between more) (line ++ b ∷ []))) (broken n))
+        ≡ lexemes (cond t (Next m (Quoted w) (scan by_tokens (Between (length (c ∷ line))) line)) (broken m))
+    by_byte true e = ap (λ (ts : List Lexeme). Quoted w ∷ ts) e
+    by_byte false e = refl
+
+first_blank : (b : ℕ) (line : List ℕ) → is_blank b ≡ true → lexemes (tokens_of (b ∷ line)) ≡ lexemes (tokens_of line)
+first_blank b line h = rw (h) (any_place (length (b ∷ line)) (length line) line)
 
 pub blanks : BlanksAreNothing
-blanks b line h = (first_blank b line h, last_blank b Between line h)
+blanks b line h = (first_blank b line h, last_blank b (Between (length line)) line h (length (line ++ b ∷ [])))
 
 -- tokens that are written are read
 
@@ -35,103 +107,122 @@ not_true : (a : Bool) → not a ≡ true → a ≡ false
 not_true false h = refl
 not_true true h = sym h
 
-abbrev starts_blank : List ℕ → Bool
-starts_blank [] = true
-starts_blank (b ∷ bs) = is_blank b
+word_end : (place : ℕ) (w rest : List ℕ) → is_parted rest ≡ true → scan by_tokens (InWord place w) rest ≡ Next place (Word w) (tokens_of rest)
+word_end place w [] h = refl
+word_end place w (b ∷ rest) h = let k : is_blank b ≡ true = h in rw (k) refl
 
-word_end : (w rest : List ℕ) → starts_blank rest ≡ true → scan (InWord w) rest ≡ Word w ∷ tokens_of rest
-word_end w [] h = refl
-word_end w (b ∷ rest) h = let k : is_blank b ≡ true = h in rw (k) refl
-
-word_more : (w : List ℕ) (b : ℕ) (rest : List ℕ) → is_word_byte b ≡ true → scan (InWord w) (b ∷ rest) ≡ scan (InWord (w ++ b ∷ [])) rest
-word_more w b rest h =
+word_more : (place : ℕ) (w : List ℕ) (b : ℕ) (rest : List ℕ) → is_word_byte b ≡ true
+    → scan by_tokens (InWord place w) (b ∷ rest) ≡ scan by_tokens (InWord place (w ++ b ∷ [])) rest
+word_more place w b rest h =
     let k = not_true (is_blank b) (both _ _ h).0 in
     let l = not_true (b == 34) (both _ _ h).1 in
     rw (k, l) refl
 
-word_run : (w v rest : List ℕ) → list_all is_word_byte v ≡ true → starts_blank rest ≡ true → scan (InWord w) (v ++ rest) ≡ Word (w ++ v) ∷ tokens_of rest
-word_run w [] rest h k = word_end w rest k ∙ ap (λ v. Word v ∷ tokens_of rest) (sym (append-nil w))
-word_run w (b ∷ v) rest h k =
-    word_more w b (v ++ rest) (both _ _ h).0
-    ∙ word_run (w ++ b ∷ []) v rest (both _ _ h).1 k
-    ∙ ap (λ v. Word v ∷ tokens_of rest) (append_assoc w (b ∷ []) v)
+word_run : (place : ℕ) (w v rest : List ℕ) → list_all is_word_byte v ≡ true → is_parted rest ≡ true
+    → scan by_tokens (InWord place w) (v ++ rest) ≡ Next place (Word (w ++ v)) (tokens_of rest)
+word_run place w [] rest h k = word_end place w rest k ∙ ap (λ v. Next place (Word v) (tokens_of rest)) (sym (append-nil w))
+word_run place w (b ∷ v) rest h k =
+    word_more place w b (v ++ rest) (both _ _ h).0
+    ∙ word_run place (w ++ b ∷ []) v rest (both _ _ h).1 k
+    ∙ ap (λ v. Next place (Word v) (tokens_of rest)) (append_assoc w (b ∷ []) v)
 
-quote_end : (q rest : List ℕ) → starts_blank rest ≡ true → scan (AfterQuote q) rest ≡ Quoted q ∷ tokens_of rest
-quote_end q [] h = refl
-quote_end q (b ∷ rest) h = let k : is_blank b ≡ true = h in rw (k) refl
+quote_end : (place : ℕ) (q rest : List ℕ) → is_parted rest ≡ true → scan by_tokens (AfterQuote place q) rest ≡ Next place (Quoted q) (tokens_of rest)
+quote_end place q [] h = refl
+quote_end place q (b ∷ rest) h = let k : is_blank b ≡ true = h in rw (k) refl
 
-quote_more : (q : List ℕ) (b : ℕ) (rest : List ℕ) → is_quoted_byte b ≡ true → scan (InQuote q) (b ∷ rest) ≡ scan (InQuote (q ++ b ∷ [])) rest
-quote_more q b rest h =
+quote_more : (place : ℕ) (q : List ℕ) (b : ℕ) (rest : List ℕ) → is_quoted_byte b ≡ true
+    → scan by_tokens (InQuote place q) (b ∷ rest) ≡ scan by_tokens (InQuote place (q ++ b ∷ [])) rest
+quote_more place q b rest h =
     let k = not_true (b == 34) (both _ _ h).0 in
     let l = not_true (nat_lt b 32) (both _ _ h).1 in
     rw (k, l) refl
 
-quote_run : (q v rest : List ℕ) → list_all is_quoted_byte v ≡ true → scan (InQuote q) (v ++ 34 ∷ rest) ≡ scan (AfterQuote (q ++ v)) rest
-quote_run q [] rest h = ap (λ v. scan (AfterQuote v) rest) (sym (append-nil q))
-quote_run q (b ∷ v) rest h =
-    quote_more q b (v ++ 34 ∷ rest) (both _ _ h).0
-    ∙ quote_run (q ++ b ∷ []) v rest (both _ _ h).1
-    ∙ ap (λ v. scan (AfterQuote v) rest) (append_assoc q (b ∷ []) v)
+quote_run : (place : ℕ) (q v rest : List ℕ) → list_all is_quoted_byte v ≡ true
+    → scan by_tokens (InQuote place q) (v ++ 34 ∷ rest) ≡ scan by_tokens (AfterQuote place (q ++ v)) rest
+quote_run place q [] rest h = ap (λ v. scan by_tokens (AfterQuote place v) rest) (sym (append-nil q))
+quote_run place q (b ∷ v) rest h =
+    quote_more place q b (v ++ 34 ∷ rest) (both _ _ h).0
+    ∙ quote_run place (q ++ b ∷ []) v rest (both _ _ h).1
+    ∙ ap (λ v. scan by_tokens (AfterQuote place v) rest) (append_assoc q (b ∷ []) v)
 
-word_begin : (b : ℕ) (rest : List ℕ) → is_word_byte b ≡ true → tokens_of (b ∷ rest) ≡ scan (InWord (b ∷ [])) rest
-word_begin b rest h =
+word_begin : (end b : ℕ) (rest : List ℕ) → is_word_byte b ≡ true
+    → scan by_tokens (Between end) (b ∷ rest) ≡ scan by_tokens (InWord (length (b ∷ rest)) (b ∷ [])) rest
+word_begin end b rest h =
     let k = not_true (is_blank b) (both _ _ h).0 in
     let l = not_true (b == 34) (both _ _ h).1 in
     rw (k, l) refl
 
-token_read : (token : Lexeme) (rest : List ℕ) → is_writable token ≡ true → starts_blank rest ≡ true → tokens_of (written_token token ++ rest) ≡ token ∷ tokens_of rest
-token_read (Word []) rest h k = absurd (false≢true h)
-token_read (Word (b ∷ w)) rest h k = word_begin b (w ++ rest) (both _ _ h).0 ∙ word_run (b ∷ []) w rest (both _ _ h).1 k
-token_read (Quoted q) rest h k = ap (scan (InQuote [])) (append_assoc q (34 ∷ []) rest) ∙ quote_run [] q rest h ∙ quote_end q rest k
-token_read Bad rest h k = absurd (false≢true h)
+token_read : (end : ℕ) (token : Lexeme) (rest : List ℕ) → is_writable token ≡ true → is_parted rest ≡ true
+    → scan by_tokens (Between end) (written_token token ++ rest) ≡ Next (length (written_token token ++ rest)) token (tokens_of rest)
+token_read end (Word []) rest h k = absurd (false≢true h)
+token_read end (Word (b ∷ w)) rest h k =
+    word_begin end b (w ++ rest) (both _ _ h).0 ∙ word_run (length (b ∷ (w ++ rest))) (b ∷ []) w rest (both _ _ h).1 k
+token_read end (Quoted q) rest h k =
+    let place = length (34 ∷ ((q ++ 34 ∷ []) ++ rest)) in
+    ap (scan by_tokens (InQuote place [])) (append_assoc q (34 ∷ []) rest) ∙ quote_run place [] q rest h ∙ quote_end place q rest k
+token_read end Bad rest h k = absurd (false≢true h)
+
+written_from : (end : ℕ) (token : Lexeme) (tokens : List Lexeme) → list_all is_writable (token ∷ tokens) ≡ true
+    → scan by_tokens (Between end) (written_line (token ∷ tokens)) ≡ placed (token ∷ tokens)
+written_from end token [] h =
+    let e = sym (append-nil (written_token token)) in
+    ap (scan by_tokens (Between end)) e ∙ token_read end token [] (both _ _ h).0 refl ∙ ap (λ bytes. Next (length bytes) token (End 0)) (sym e)
+written_from end token (next ∷ tokens) h =
+    token_read end token (32 ∷ written_line (next ∷ tokens)) (both _ _ h).0 refl
+    ∙ ap (Next (length (written_line (token ∷ next ∷ tokens))) token) (written_from (length (32 ∷ written_line (next ∷ tokens))) next tokens (both _ _ h).1)
 
 pub written : WrittenTokensAreRead
 written [] h = refl
-written (token ∷ []) h = ap tokens_of (sym (append-nil (written_token token))) ∙ token_read token [] (both _ _ h).0 refl
-written (token ∷ next ∷ tokens) h =
-    token_read token (32 ∷ written_line (next ∷ tokens)) (both _ _ h).0 refl
-    ∙ ap (λ ts. token ∷ ts) (written (next ∷ tokens) (both _ _ h).1)
+written (token ∷ tokens) h = written_from (length (written_line (token ∷ tokens))) token tokens h
 
 pub before_blank : TokenIsReadBeforeBlank
-before_blank token b rest h k = token_read token (b ∷ rest) h k ∙ ap (λ ts. token ∷ ts) (first_blank b rest k)
+before_blank token b rest h k = token_read (length (written_token token ++ b ∷ rest)) token (b ∷ rest) h k
 
 -- tokens that break the rules
 
-word_broken : (w v rest : List ℕ) → list_all is_word_byte v ≡ true → scan (InWord w) (v ++ 34 ∷ rest) ≡ Bad ∷ []
-word_broken w [] rest h = refl
-word_broken w (b ∷ v) rest h = word_more w b (v ++ 34 ∷ rest) (both _ _ h).0 ∙ word_broken (w ++ b ∷ []) v rest (both _ _ h).1
+word_broken : (place : ℕ) (w v rest : List ℕ) → list_all is_word_byte v ≡ true → scan by_tokens (InWord place w) (v ++ 34 ∷ rest) ≡ broken place
+word_broken place w [] rest h = refl
+word_broken place w (b ∷ v) rest h = word_more place w b (v ++ 34 ∷ rest) (both _ _ h).0 ∙ word_broken place (w ++ b ∷ []) v rest (both _ _ h).1
 
-broken_word : (w rest : List ℕ) → is_writable (Word w) ≡ true → tokens_of (w ++ 34 ∷ rest) ≡ Bad ∷ []
+broken_word : (w rest : List ℕ) → is_writable (Word w) ≡ true → lexemes (tokens_of (w ++ 34 ∷ rest)) ≡ Bad ∷ []
 broken_word [] rest h = absurd (false≢true h)
-broken_word (b ∷ w) rest h = word_begin b (w ++ 34 ∷ rest) (both _ _ h).0 ∙ word_broken (b ∷ []) w rest (both _ _ h).1
+broken_word (b ∷ w) rest h =
+    let place = length (b ∷ (w ++ 34 ∷ rest)) in
+    ap lexemes (word_begin place b (w ++ 34 ∷ rest) (both _ _ h).0 ∙ word_broken place (b ∷ []) w rest (both _ _ h).1)
 
-quote_open : (q v : List ℕ) → list_all is_quoted_byte v ≡ true → scan (InQuote q) v ≡ Bad ∷ []
-quote_open q [] h = refl
-quote_open q (b ∷ v) h = quote_more q b v (both _ _ h).0 ∙ quote_open (q ++ b ∷ []) v (both _ _ h).1
+quote_open : (place : ℕ) (q v : List ℕ) → list_all is_quoted_byte v ≡ true → scan by_tokens (InQuote place q) v ≡ broken place
+quote_open place q [] h = refl
+quote_open place q (b ∷ v) h = quote_more place q b v (both _ _ h).0 ∙ quote_open place (q ++ b ∷ []) v (both _ _ h).1
 
-quote_low : (q rest : List ℕ) (c : ℕ) → c < 32 → scan (InQuote q) (c ∷ rest) ≡ Bad ∷ []
-quote_low q rest c h =
+quote_low : (place : ℕ) (q rest : List ℕ) (c : ℕ) → c < 32 → scan by_tokens (InQuote place q) (c ∷ rest) ≡ broken place
+quote_low place q rest c h =
     let k : (c == 34) ≡ false = grind (arith, nat_tests) in
     let l : nat_lt c 32 ≡ true = grind (arith, nat_tests) in
     rw (k, l) refl
 
-quote_broken : (q v rest : List ℕ) (c : ℕ) → list_all is_quoted_byte v ≡ true → c < 32 → scan (InQuote q) (v ++ c ∷ rest) ≡ Bad ∷ []
-quote_broken q [] rest c h k = quote_low q rest c k
-quote_broken q (b ∷ v) rest c h k = quote_more q b (v ++ c ∷ rest) (both _ _ h).0 ∙ quote_broken (q ++ b ∷ []) v rest c (both _ _ h).1 k
+quote_broken : (place : ℕ) (q v rest : List ℕ) (c : ℕ) → list_all is_quoted_byte v ≡ true → c < 32
+    → scan by_tokens (InQuote place q) (v ++ c ∷ rest) ≡ broken place
+quote_broken place q [] rest c h k = quote_low place q rest c k
+quote_broken place q (b ∷ v) rest c h k = quote_more place q b (v ++ c ∷ rest) (both _ _ h).0 ∙ quote_broken place (q ++ b ∷ []) v rest c (both _ _ h).1 k
 
-quote_met : (q rest : List ℕ) (c : ℕ) → is_blank c ≡ false → scan (AfterQuote q) (c ∷ rest) ≡ Bad ∷ []
-quote_met q rest c h = rw (h) refl
+quote_met : (place : ℕ) (q rest : List ℕ) (c : ℕ) → is_blank c ≡ false → scan by_tokens (AfterQuote place q) (c ∷ rest) ≡ broken place
+quote_met place q rest c h = rw (h) refl
 
-pub broken : BrokenTokensAreBad
-broken = (broken_word, λ q h. quote_open [] q h, λ q rest c h k. quote_broken [] q rest c h k, λ q rest c h k. quote_run [] q (c ∷ rest) h ∙ quote_met q rest c k)
+pub broken_tokens : BrokenTokensAreBad
+broken_tokens = (
+  broken_word,
+  λ q h. ap lexemes (quote_open (length (34 ∷ q)) [] q h),
+  λ q rest c h k. ap lexemes (quote_broken (length (34 ∷ (q ++ c ∷ rest))) [] q rest c h k),
+  λ q rest c h k. ap lexemes (quote_run (length (34 ∷ (q ++ 34 ∷ c ∷ rest))) [] q (c ∷ rest) h ∙ quote_met (length (34 ∷ (q ++ 34 ∷ c ∷ rest))) q rest c k),
+)
 
 -- each token can be written
 
-abbrev is_sound : Place → Bool
-is_sound Between = true
-is_sound (InWord w) = is_writable (Word w)
-is_sound (InQuote q) = is_writable (Quoted q)
-is_sound (AfterQuote q) = is_writable (Quoted q)
+abbrev is_sound : Spot → Bool
+is_sound (Between end) = true
+is_sound (InWord place w) = is_writable (Word w)
+is_sound (InQuote place q) = is_writable (Quoted q)
+is_sound (AfterQuote place q) = is_writable (Quoted q)
 
 pub all_more : (p : ℕ → Bool) (w : List ℕ) (b : ℕ) → list_all p w ≡ true → p b ≡ true → list_all p (w ++ b ∷ []) ≡ true
 all_more p [] b h k = and_true _ _ k refl
@@ -147,87 +238,94 @@ word_byte b k l = rw (k, l) refl
 pub quoted_byte : (b : ℕ) → (b == 34) ≡ false → nat_lt b 32 ≡ false → is_quoted_byte b ≡ true
 quoted_byte b k l = rw (k, l) refl
 
-found_from : (p : Place) (line : List ℕ) → is_sound p ≡ true → are_found (scan p line) ≡ true
-found_from Between [] h = refl
-found_from (InWord w) [] h = and_true _ _ h refl
-found_from (InQuote q) [] h = refl
-found_from (AfterQuote q) [] h = and_true _ _ h refl
-found_from Between (b ∷ line) h =
-    by_first (is_blank b) (b == 34) refl refl (found_from Between line refl) (found_from (InQuote []) line refl) (found_from (InWord (b ∷ [])) line)
+found_from : (p : Spot) (line : List ℕ) → is_sound p ≡ true → are_found (scan by_tokens p line) ≡ true
+found_from (Between end) [] h = refl
+found_from (InWord place w) [] h = and_true _ _ h refl
+found_from (InQuote place q) [] h = refl
+found_from (AfterQuote place q) [] h = and_true _ _ h refl
+found_from (Between end) (b ∷ line) h =
+    by_first (is_blank b) (b == 34) refl refl (found_from (Between end) line refl) (found_from (InQuote (length (b ∷ line)) []) line refl)
+    (found_from (InWord (length (b ∷ line)) (b ∷ [])) line)
   where
     by_first : (s t : Bool) → is_blank b ≡ s → (b == 34) ≡ t
-        → are_found (scan Between line) ≡ true → are_found (scan (InQuote []) line) ≡ true → (is_sound (InWord (b ∷ [])) ≡ true → are_found (scan (InWord (b ∷ [])) line) ≡ true)
-        → are_found (cond s (scan Between line) (cond t (scan (InQuote []) line) (scan (InWord (b ∷ [])) line))) ≡ true
+        → are_found (scan by_tokens (Between end) line) ≡ true → are_found (scan by_tokens (InQuote (length (b ∷ line)) []) line) ≡ true
+        → (is_sound (InWord (length (b ∷ line)) (b ∷ [])) ≡ true → are_found (scan by_tokens (InWord (length (b ∷ line)) (b ∷ [])) line) ≡ true)
+        → are_found (cond s (scan by_tokens (Between end) line)
+        (cond t (scan by_tokens (InQuote (length (b ∷ line)) []) line) (scan by_tokens (InWord (length (b ∷ line)) (b ∷ [])) line))) ≡ true
     by_first true t k l e f g = e
     by_first false true k l e f g = f
     by_first false false k l e f g = g (and_true _ _ (word_byte b k l) refl)
-found_from (InWord w) (b ∷ line) h =
-    by_first (is_blank b) (b == 34) refl refl (found_from Between line refl) (found_from (InWord (w ++ b ∷ [])) line)
+found_from (InWord place w) (b ∷ line) h =
+    by_first (is_blank b) (b == 34) refl refl (found_from (Between (length (b ∷ line))) line refl) (found_from (InWord place (w ++ b ∷ [])) line)
   where
     by_first : (s t : Bool) → is_blank b ≡ s → (b == 34) ≡ t
-        → are_found (scan Between line) ≡ true → (is_sound (InWord (w ++ b ∷ [])) ≡ true → are_found (scan (InWord (w ++ b ∷ [])) line) ≡ true)
-        → are_found (cond s (Word w ∷ scan Between line) (cond t (Bad ∷ []) (scan (InWord (w ++ b ∷ [])) line))) ≡ true
+        → are_found (scan by_tokens (Between (length (b ∷ line))) line) ≡ true
+        → (is_sound (InWord place (w ++ b ∷ [])) ≡ true → are_found (scan by_tokens (InWord place (w ++ b ∷ [])) line) ≡ true)
+        → are_found (cond s (Next place (Word w) (scan by_tokens (Between (length (b ∷ line))) line)) (cond t (broken place) (scan by_tokens (InWord place (w ++ b ∷ [])) line))) ≡ true
     by_first true t k l e g = and_true _ _ h e
     by_first false true k l e g = refl
     by_first false false k l e g = g (and_true _ _ (some_more w b) (all_more is_word_byte w b (both _ _ h).1 (word_byte b k l)))
-found_from (InQuote q) (b ∷ line) h =
-    by_first (b == 34) (nat_lt b 32) refl refl (found_from (AfterQuote q) line h) (found_from (InQuote (q ++ b ∷ [])) line)
+found_from (InQuote place q) (b ∷ line) h =
+    by_first (b == 34) (nat_lt b 32) refl refl (found_from (AfterQuote place q) line h) (found_from (InQuote place (q ++ b ∷ [])) line)
   where
     by_first : (s t : Bool) → (b == 34) ≡ s → nat_lt b 32 ≡ t
-        → are_found (scan (AfterQuote q) line) ≡ true → (is_sound (InQuote (q ++ b ∷ [])) ≡ true → are_found (scan (InQuote (q ++ b ∷ [])) line) ≡ true)
-        → are_found (cond s (scan (AfterQuote q) line) (cond t (Bad ∷ []) (scan (InQuote (q ++ b ∷ [])) line))) ≡ true
+        → are_found (scan by_tokens (AfterQuote place q) line) ≡ true
+        → (is_sound (InQuote place (q ++ b ∷ [])) ≡ true → are_found (scan by_tokens (InQuote place (q ++ b ∷ [])) line) ≡ true)
+        → are_found (cond s (scan by_tokens (AfterQuote place q) line) (cond t (broken place) (scan by_tokens (InQuote place (q ++ b ∷ [])) line))) ≡ true
     by_first true t k l e g = e
     by_first false true k l e g = refl
     by_first false false k l e g = g (all_more is_quoted_byte q b h (quoted_byte b k l))
-found_from (AfterQuote q) (b ∷ line) h = by_first (is_blank b) (found_from Between line refl)
+found_from (AfterQuote place q) (b ∷ line) h = by_first (is_blank b) (found_from (Between (length (b ∷ line))) line refl)
   where
-    by_first : (s : Bool) → are_found (scan Between line) ≡ true → are_found (cond s (Quoted q ∷ scan Between line) (Bad ∷ [])) ≡ true
+    by_first : (s : Bool) → are_found (scan by_tokens (Between (length (b ∷ line))) line) ≡ true
+        → are_found (cond s (Next place (Quoted q) (scan by_tokens (Between (length (b ∷ line))) line)) (broken place)) ≡ true
     by_first true e = and_true _ _ h e
     by_first false e = refl
 
 pub found : TokensAreFound
-found line = found_from Between line refl
+found line = found_from (Between (length line)) line refl
 
 -- the first token
 
 -- it is a word that begins with b, or breaks the rules
-abbrev WordFirst : ℕ → List Lexeme → Type 0
-WordFirst b [] = false ≡ true
-WordFirst b (Word w ∷ tokens) = slice_index w 0 ≡ b
-WordFirst b (Quoted q ∷ tokens) = false ≡ true
-WordFirst b (Bad ∷ tokens) = true ≡ true
+abbrev WordFirst : ℕ → Lexemes → Type 0
+WordFirst b (End end) = false ≡ true
+WordFirst b (Next place (Word w) tokens) = slice_index w 0 ≡ b
+WordFirst b (Next place (Quoted q) tokens) = false ≡ true
+WordFirst b (Next place Bad tokens) = true ≡ true
 
-word_first : (b : ℕ) (w line : List ℕ) → WordFirst b (scan (InWord (b ∷ w)) line)
-word_first b w [] = refl
-word_first b w (c ∷ line) = by_first (is_blank c) (c == 34) (word_first b (w ++ c ∷ []) line)
+word_first : (place b : ℕ) (w line : List ℕ) → WordFirst b (scan by_tokens (InWord place (b ∷ w)) line)
+word_first place b w [] = refl
+word_first place b w (c ∷ line) = by_first (is_blank c) (c == 34) (word_first place b (w ++ c ∷ []) line)
   where
-    by_first : (s t : Bool) → WordFirst b (scan (InWord (b ∷ (w ++ c ∷ []))) line)
-        → WordFirst b (cond s (Word (b ∷ w) ∷ scan Between line) (cond t (Bad ∷ []) (scan (InWord (b ∷ (w ++ c ∷ []))) line)))
+    by_first : (s t : Bool) → WordFirst b (scan by_tokens (InWord place (b ∷ (w ++ c ∷ []))) line)
+        → WordFirst b (cond s (Next place (Word (b ∷ w)) (scan by_tokens (Between (length (c ∷ line))) line))
+        (cond t (broken place) (scan by_tokens (InWord place (b ∷ (w ++ c ∷ []))) line)))
     by_first true t e = refl
     by_first false true e = refl
     by_first false false e = e
 
 -- it is quoted, or breaks the rules
-abbrev QuoteFirst : List Lexeme → Type 0
-QuoteFirst [] = false ≡ true
-QuoteFirst (Word w ∷ tokens) = false ≡ true
-QuoteFirst (Quoted q ∷ tokens) = true ≡ true
-QuoteFirst (Bad ∷ tokens) = true ≡ true
+abbrev QuoteFirst : Lexemes → Type 0
+QuoteFirst (End end) = false ≡ true
+QuoteFirst (Next place (Word w) tokens) = false ≡ true
+QuoteFirst (Next place (Quoted q) tokens) = true ≡ true
+QuoteFirst (Next place Bad tokens) = true ≡ true
 
-after_first : (q line : List ℕ) → QuoteFirst (scan (AfterQuote q) line)
-after_first q [] = refl
-after_first q (b ∷ line) = by_first (is_blank b)
+after_first : (place : ℕ) (q line : List ℕ) → QuoteFirst (scan by_tokens (AfterQuote place q) line)
+after_first place q [] = refl
+after_first place q (b ∷ line) = by_first (is_blank b)
   where
-    by_first : (s : Bool) → QuoteFirst (cond s (Quoted q ∷ scan Between line) (Bad ∷ []))
+    by_first : (s : Bool) → QuoteFirst (cond s (Next place (Quoted q) (scan by_tokens (Between (length (b ∷ line))) line)) (broken place))
     by_first true = refl
     by_first false = refl
 
-quote_first : (q line : List ℕ) → QuoteFirst (scan (InQuote q) line)
-quote_first q [] = refl
-quote_first q (b ∷ line) = by_first (b == 34) (nat_lt b 32) (after_first q line) (quote_first (q ++ b ∷ []) line)
+quote_first : (place : ℕ) (q line : List ℕ) → QuoteFirst (scan by_tokens (InQuote place q) line)
+quote_first place q [] = refl
+quote_first place q (b ∷ line) = by_first (b == 34) (nat_lt b 32) (after_first place q line) (quote_first place (q ++ b ∷ []) line)
   where
-    by_first : (s t : Bool) → QuoteFirst (scan (AfterQuote q) line) → QuoteFirst (scan (InQuote (q ++ b ∷ [])) line)
-        → QuoteFirst (cond s (scan (AfterQuote q) line) (cond t (Bad ∷ []) (scan (InQuote (q ++ b ∷ [])) line)))
+    by_first : (s t : Bool) → QuoteFirst (scan by_tokens (AfterQuote place q) line) → QuoteFirst (scan by_tokens (InQuote place (q ++ b ∷ [])) line)
+        → QuoteFirst (cond s (scan by_tokens (AfterQuote place q) line) (cond t (broken place) (scan by_tokens (InQuote place (q ++ b ∷ [])) line)))
     by_first true t e f = e
     by_first false true e f = refl
     by_first false false e f = f
@@ -239,44 +337,48 @@ FirstSays (Word w ∷ tokens) skipped = skipped ≡ (slice_index w 0 == 35)
 FirstSays (Quoted q ∷ tokens) skipped = skipped ≡ false
 FirstSays (Bad ∷ tokens) skipped = true ≡ true
 
-word_says : (b : ℕ) (tokens : List Lexeme) → WordFirst b tokens → FirstSays tokens (b == 35)
-word_says b [] h = absurd (false≢true h)
-word_says b (Word w ∷ tokens) h = ap (λ c. c == 35) (sym h)
-word_says b (Quoted q ∷ tokens) h = absurd (false≢true h)
-word_says b (Bad ∷ tokens) h = refl
+word_says : (b : ℕ) (tokens : Lexemes) → WordFirst b tokens → FirstSays (lexemes tokens) (b == 35)
+word_says b (End end) h = absurd (false≢true h)
+word_says b (Next place (Word w) tokens) h = ap (λ c. c == 35) (sym h)
+word_says b (Next place (Quoted q) tokens) h = absurd (false≢true h)
+word_says b (Next place Bad tokens) h = refl
 
-quote_says : (b : ℕ) (tokens : List Lexeme) → (b == 34) ≡ true → QuoteFirst tokens → FirstSays tokens (b == 35)
-quote_says b [] k h = absurd (false≢true h)
-quote_says b (Word w ∷ tokens) k h = absurd (false≢true h)
-quote_says b (Quoted q ∷ tokens) k h = grind (arith, nat_tests)
-quote_says b (Bad ∷ tokens) k h = refl
+quote_says : (b : ℕ) (tokens : Lexemes) → (b == 34) ≡ true → QuoteFirst tokens → FirstSays (lexemes tokens) (b == 35)
+quote_says b (End end) k h = absurd (false≢true h)
+quote_says b (Next place (Word w) tokens) k h = absurd (false≢true h)
+quote_says b (Next place (Quoted q) tokens) k h = grind (arith, nat_tests)
+quote_says b (Next place Bad tokens) k h = refl
 
-first_says : (line : List ℕ) → FirstSays (tokens_of line) (is_skipped line)
-first_says [] = refl
-first_says (b ∷ line) = by_first (is_blank b) (b == 34) refl (first_says line) (quote_first [] line) (word_first b [] line)
+first_says : (end : ℕ) (line : List ℕ) → FirstSays (lexemes (scan by_tokens (Between end) line)) (is_skipped line)
+first_says end [] = refl
+first_says end (b ∷ line) =
+    by_first (is_blank b) (b == 34) refl (first_says end line) (quote_first (length (b ∷ line)) [] line) (word_first (length (b ∷ line)) b [] line)
   where
-    by_first : (s t : Bool) → (b == 34) ≡ t → FirstSays (tokens_of line) (is_skipped line) → QuoteFirst (scan (InQuote []) line) → WordFirst b (scan (InWord (b ∷ [])) line)
-        → FirstSays (cond s (scan Between line) (cond t (scan (InQuote []) line) (scan (InWord (b ∷ [])) line))) (cond s (is_skipped line) (b == 35))
+    by_first : (s t : Bool) → (b == 34) ≡ t → FirstSays (lexemes (scan by_tokens (Between end) line)) (is_skipped line)
+        → QuoteFirst (scan by_tokens (InQuote (length (b ∷ line)) []) line) → WordFirst b (scan by_tokens (InWord (length (b ∷ line)) (b ∷ [])) line)
+        → FirstSays (lexemes (cond s (scan by_tokens (Between end) line)
+        (cond t (scan by_tokens (InQuote (length (b ∷ line)) []) line) (scan by_tokens (InWord (length (b ∷ line)) (b ∷ [])) line)))) (cond s (is_skipped line) (b == 35))
     by_first true t k e f g = e
-    by_first false true k e f g = quote_says b (scan (InQuote []) line) k f
-    by_first false false k e f g = word_says b (scan (InWord (b ∷ [])) line) g
+    by_first false true k e f g = quote_says b (scan by_tokens (InQuote (length (b ∷ line)) []) line) k f
+    by_first false false k e f g = word_says b (scan by_tokens (InWord (length (b ∷ line)) (b ∷ [])) line) g
 
-byte_skips : (line : List ℕ) → 0 < length (tokens_of line) → is_skipped line ≡ (first_byte line == 35)
-byte_skips [] h = absurd (omega arith)
-byte_skips (b ∷ line) h = by_first (is_blank b) h (byte_skips line)
+byte_skips : (end : ℕ) (line : List ℕ) → 0 < length (lexemes (scan by_tokens (Between end) line)) → is_skipped line ≡ (first_byte line == 35)
+byte_skips end [] h = absurd (omega arith)
+byte_skips end (b ∷ line) h = by_first (is_blank b) h (byte_skips end line)
   where
-    by_first : (s : Bool) → 0 < length (cond s (scan Between line) (cond (b == 34) (scan (InQuote []) line) (scan (InWord (b ∷ [])) line)))
-        → (0 < length (scan Between line) → is_skipped line ≡ (first_byte line == 35))
+    by_first : (s : Bool) → 0 < length (lexemes (cond s (scan by_tokens (Between end) line)
+        (cond (b == 34) (scan by_tokens (InQuote (length (b ∷ line)) []) line) (scan by_tokens (InWord (length (b ∷ line)) (b ∷ [])) line))))
+        → (0 < length (lexemes (scan by_tokens (Between end) line)) → is_skipped line ≡ (first_byte line == 35))
         → cond s (is_skipped line) (b == 35) ≡ (cond s (first_byte line) b == 35)
     by_first true h e = e h
     by_first false h e = refl
 
 pub first_skips : FirstTokenSkips
 first_skips = (
-  λ line e. subst (λ ts. FirstSays ts (is_skipped line)) e (first_says line),
-  λ line token tokens e. byte_skips line (subst (λ ts. 0 < length ts) (sym e) (omega arith)),
-  λ line q tokens e. subst (λ ts. FirstSays ts (is_skipped line)) e (first_says line),
-  λ line w tokens e. subst (λ ts. FirstSays ts (is_skipped line)) e (first_says line),
+  λ line e. subst (λ ts. FirstSays ts (is_skipped line)) e (first_says (length line) line),
+  λ line token tokens e. byte_skips (length line) line (subst (λ (ts : List Lexeme). 0 < length ts) (sym e) (omega arith)),
+  λ line q tokens e. subst (λ ts. FirstSays ts (is_skipped line)) e (first_says (length line) line),
+  λ line w tokens e. subst (λ ts. FirstSays ts (is_skipped line)) e (first_says (length line) line),
 )
 
 has_some : (tokens : List Lexeme) (skipped : Bool) → FirstSays tokens skipped → skipped ≡ false → 0 < length tokens
@@ -284,113 +386,45 @@ has_some [] skipped h k = absurd (false≢true (sym k ∙ h))
 has_some (token ∷ tokens) skipped h k = omega arith
 
 pub have_tokens : SayingLinesHaveTokens
-have_tokens line h = has_some (tokens_of line) (is_skipped line) (first_says line) h
+have_tokens line h = has_some (lexemes (tokens_of line)) (is_skipped line) (first_says (length line) line) h
 
 -- words of a line without `"`
 
--- the parts with these bytes put before the first
-abbrev onto_part : List ℕ → List (List ℕ) → List (List ℕ)
-onto_part w [] = w ∷ []
-onto_part w (part ∷ parts) = (w ++ part) ∷ parts
-
-onto_first_part : (b : ℕ) (parts : List (List ℕ)) → onto_part (b ∷ []) parts ≡ onto_first b parts
-onto_first_part b [] = refl
-onto_first_part b (part ∷ parts) = refl
-
-onto_part_more : (w : List ℕ) (b : ℕ) (parts : List (List ℕ)) → onto_part (w ++ b ∷ []) parts ≡ onto_part w (onto_first b parts)
-onto_part_more w b [] = refl
-onto_part_more w b (part ∷ parts) = ap (λ v. v ∷ parts) (append_assoc w (b ∷ []) part)
-
--- the words of a line after the bytes of a word
-abbrev words_behind : List ℕ → List ℕ → List Lexeme
-words_behind w line = map Word (filter is_some_word (onto_part w (slice_split is_blank line)))
-
--- the tokens of a line without `"`, from between tokens and from within a word
+-- from between tokens and from within a word
 record IsPlain (line : List ℕ) : Type 0 where
-  between : scan Between line ≡ map Word (words_of line)
-  in_word : (b : ℕ) (w : List ℕ) → scan (InWord (b ∷ w)) line ≡ words_behind (b ∷ w) line
+  between : (end : ℕ) → scan by_tokens (Between end) line ≡ scan by_words (Between end) line
+  in_word : (place : ℕ) (w : List ℕ) → scan by_tokens (InWord place w) line ≡ scan by_words (InWord place w) line
 
 plain_step : (c : ℕ) (line : List ℕ) → not (c == 34) ≡ true → IsPlain line → IsPlain (c ∷ line)
-plain_step c line l h = record { between = from_between (is_blank c) (c == 34) refl; in_word = λ b w. from_word b w (is_blank c) (c == 34) refl }
+plain_step c line l h =
+    let k = not_true (c == 34) l in
+    record { between = λ end. rw (k) (from_between end (is_blank c)); in_word = λ place w. rw (k) (from_word place w (is_blank c)) }
   where
-    from_between : (s t : Bool) → (c == 34) ≡ t
-        → cond s (scan Between line) (cond t (scan (InQuote []) line) (scan (InWord (c ∷ [])) line))
-        ≡ map Word (filter is_some_word (cond s ([] ∷ slice_split is_blank line) (onto_first c (slice_split is_blank line))))
-    from_between true t k = h.between
-    from_between false true k = absurd (false≢true (sym (ap not k) ∙ l))
-    from_between false false k = h.in_word c [] ∙ ap (λ ps. map Word (filter is_some_word ps)) (onto_first_part c (slice_split is_blank line))
+    from_between : (end : ℕ) (s : Bool)
+        → cond s (scan by_tokens (Between end) line) (scan by_tokens (InWord (length (c ∷ line)) (c ∷ [])) line)
+        ≡ cond s (scan by_words (Between end) line) (scan by_words (InWord (length (c ∷ line)) (c ∷ [])) line)
+    from_between end true = h.between end
+    from_between end false = h.in_word (length (c ∷ line)) (c ∷ [])
 
-    from_word : (b : ℕ) (w : List ℕ) (s t : Bool) → (c == 34) ≡ t
-        → cond s (Word (b ∷ w) ∷ scan Between line) (cond t (Bad ∷ []) (scan (InWord (b ∷ (w ++ c ∷ []))) line))
-        ≡ map Word (filter is_some_word (onto_part (b ∷ w) (cond s ([] ∷ slice_split is_blank line) (onto_first c (slice_split is_blank line)))))
-    from_word b w true t k = ap (λ ts. Word (b ∷ w) ∷ ts) h.between ∙ ap (λ v. Word (b ∷ v) ∷ map Word (words_of line)) (sym (append-nil w))
-    from_word b w false true k = absurd (false≢true (sym (ap not k) ∙ l))
-    from_word b w false false k = h.in_word b (w ++ c ∷ []) ∙ ap (λ ps. map Word (filter is_some_word ps)) (onto_part_more (b ∷ w) c (slice_split is_blank line))
+    from_word : (place : ℕ) (w : List ℕ) (s : Bool)
+        → cond s (Next place (Word w) (scan by_tokens (Between (length (c ∷ line))) line)) (scan by_tokens (InWord place (w ++ c ∷ [])) line)
+        ≡ cond s (Next place (Word w) (scan by_words (Between (length (c ∷ line))) line)) (scan by_words (InWord place (w ++ c ∷ [])) line)
+    from_word place w true = ap (Next place (Word w)) (h.between (length (c ∷ line)))
+    from_word place w false = h.in_word place (w ++ c ∷ [])
 
 plain_line : (line : List ℕ) → list_all (λ c. not (c == 34)) line ≡ true → IsPlain line
-plain_line [] h = record { between = refl; in_word = λ b w. ap (λ v. Word (b ∷ v) ∷ []) (sym (append-nil w)) }
+plain_line [] h = record { between = λ end. refl; in_word = λ place w. refl }
 plain_line (c ∷ line) h = plain_step c line (both _ _ h).0 (plain_line line (both _ _ h).1)
 
 pub plain : PlainLinesHaveWords
-plain line h = (plain_line line h).between
+plain line h = (plain_line line h).between (length line)
 
--- after a token that was found the others were found too
-pub found_next : (token : Lexeme) (tokens others : List Lexeme) → are_found (token ∷ tokens) ≡ true → tokens ≡ others → are_found others ≡ true
-found_next token tokens others h e = subst (λ tokens. are_found tokens ≡ true) e (found_behind token tokens h)
-  where
-    found_behind : (token : Lexeme) (tokens : List Lexeme) → are_found (token ∷ tokens) ≡ true → are_found tokens ≡ true
-    found_behind (Word w) tokens h = (both (is_writable (Word w)) (are_found tokens) h).1
-    found_behind (Quoted q) tokens h = (both (is_writable (Quoted q)) (are_found tokens) h).1
-    found_behind Bad [] h = refl
-    found_behind Bad (token ∷ tokens) h = (both (is_writable Bad) (are_found (token ∷ tokens)) h).1
+-- so were the tokens that are left of a line
+pub found_rest : (line : List ℕ) (tokens : Lexemes) → tokens_of line ≡ tokens → are_found tokens ≡ true
+found_rest line tokens e = subst (λ tokens. are_found tokens ≡ true) e (found line)
 
 -- a token that was found can be quoted
-pub sound_next : (token : Lexeme) (tokens : List Lexeme) → are_found (token ∷ tokens) ≡ true → is_quotable token ≡ true
-sound_next (Word w) tokens h = refl
-sound_next (Quoted q) tokens h = (both (is_writable (Quoted q)) (are_found tokens) h).0
-sound_next Bad tokens h = refl
-
--- tokens have a blank between them, so that a line has at most half as many as bytes
-
-abbrev begun : Place → ℕ
-begun Between = 1
-begun (InWord w) = 2
-begun (InQuote w) = 2
-begun (AfterQuote w) = 2
-
-scan_few : (p : Place) (line : List ℕ) → 2 * length (scan p line) ≤ begun p + length line
-scan_few Between [] = omega arith
-scan_few (InWord w) [] = omega arith
-scan_few (InQuote w) [] = omega arith
-scan_few (AfterQuote w) [] = omega arith
-scan_few Between (b ∷ line) = omega (arith, by_byte (is_blank b) (b == 34) (scan_few Between line) (scan_few (InQuote []) line) (scan_few (InWord (b ∷ [])) line))
-  where
-    by_byte : (blank quote : Bool) → 2 * length (scan Between line) ≤ 1 + length line → 2 * length (scan (InQuote []) line) ≤ 2 + length line
-        → 2 * length (scan (InWord (b ∷ [])) line) ≤ 2 + length line
-        → 2 * length (cond blank (scan Between line) (cond quote (scan (InQuote []) line) (scan (InWord (b ∷ [])) line))) ≤ 2 + length line
-    by_byte true quote h q w = omega (arith, h)
-    by_byte false true h q w = q
-    by_byte false false h q w = w
-scan_few (InWord v) (b ∷ line) = omega (arith, by_byte (is_blank b) (b == 34) (scan_few Between line) (scan_few (InWord (v ++ b ∷ [])) line))
-  where
-    by_byte : (blank quote : Bool) → 2 * length (scan Between line) ≤ 1 + length line → 2 * length (scan (InWord (v ++ b ∷ [])) line) ≤ 2 + length line
-        → 2 * length (cond blank (Word v ∷ scan Between line) (cond quote (Bad ∷ []) (scan (InWord (v ++ b ∷ [])) line))) ≤ 2 + (1 + length line)
-    by_byte true quote h w = omega (arith, h)
-    by_byte false true h w = omega arith
-    by_byte false false h w = omega (arith, w)
-scan_few (InQuote v) (b ∷ line) = omega (arith, by_byte (b == 34) (nat_lt b 32) (scan_few (AfterQuote v) line) (scan_few (InQuote (v ++ b ∷ [])) line))
-  where
-    by_byte : (quote low : Bool) → 2 * length (scan (AfterQuote v) line) ≤ 2 + length line → 2 * length (scan (InQuote (v ++ b ∷ [])) line) ≤ 2 + length line
-        → 2 * length (cond quote (scan (AfterQuote v) line) (cond low (Bad ∷ []) (scan (InQuote (v ++ b ∷ [])) line))) ≤ 2 + (1 + length line)
-    by_byte true low h w = omega (arith, h)
-    by_byte false true h w = omega arith
-    by_byte false false h w = omega (arith, w)
-scan_few (AfterQuote v) (b ∷ line) = omega (arith, by_byte (is_blank b) (scan_few Between line))
-  where
-    by_byte : (blank : Bool) → 2 * length (scan Between line) ≤ 1 + length line
-        → 2 * length (cond blank (Quoted v ∷ scan Between line) (Bad ∷ [])) ≤ 2 + (1 + length line)
-    by_byte true h = omega (arith, h)
-    by_byte false h = omega arith
-
-pub tokens_few : (line : List ℕ) → 2 * length (tokens_of line) ≤ 1 + length line
-tokens_few line = scan_few Between line
+pub sound_next : (place : ℕ) (token : Lexeme) (tokens : Lexemes) → are_found (Next place token tokens) ≡ true → is_quotable token ≡ true
+sound_next place (Word w) tokens h = refl
+sound_next place (Quoted q) tokens h = (both (is_writable (Quoted q)) (are_found tokens) h).0
+sound_next place Bad tokens h = refl

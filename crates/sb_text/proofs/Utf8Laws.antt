@@ -6,7 +6,8 @@ use Rattle.std.proofs.lemmas.List.Sums.{sum_by-cons}
 use Rattle.std.proofs.lemmas.Str.{utf8_valid_len-IsUtf8, utf8_valid_len-IsValidUpTo}
 use Rattle.sb_text.proofs.Conjunctions.{both}
 use Rattle.sb_text.specs.LineLaws.{is_line}
-use Rattle.sb_text.specs.Spots.{by_tokens, characters, is_character}
+use Rattle.sb_text.specs.Columns.{characters, is_character}
+use Rattle.sb_text.specs.Tokens.{by_tokens}
 use Rattle.sb_text.specs.Utf8.{Place, first_place, place_after, place_past}
 use Rattle.sb_text.specs.Utf8Laws.{NotUtf8PlaceTells, PlacesAreCounted}
 

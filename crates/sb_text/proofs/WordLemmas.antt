@@ -1,66 +1,51 @@
--- The words of a line that begins with no blank.
-use Rattle.std.proofs.Common.{suc, subst, ◌≡◌, ◌∙◌, ℕ, ◌+◌, ◌<◌, ◌≤◌, Bool, not, false, List, [], ◌∷◌, length, take, drop, get_or, ap, refl, arith, true, cond}
-use Rattle.std.proofs.lemmas.Grind.{common_steps}
-use Rattle.std.proofs.lemmas.Bool.Decides.{nat_tests}
-use Rattle.std.specs.List.{filter, onto_first, position_or_len, slice_split}
+-- The first word of bytes that begin with no blank.
+use Rattle.std.proofs.Common.{suc, subst, ◌≡◌, ◌∙◌, ℕ, ◌+◌, ◌<◌, Bool, not, false, List, [], ◌∷◌, ◌++◌, length, take, drop, get_or, ap, sym, refl, arith, true, cond}
+use Rattle.std.specs.List.{position_or_len}
+use Rattle.std.proofs.lemmas.Bool.{false≢true}
+use Rattle.std.proofs.lemmas.List.{append_assoc, append-nil}
 use Rattle.sb_text.specs.Lines.{is_blank}
-use Rattle.sb_text.specs.Words.{is_some_word, words_of}
-
-abbrev past_blank : List ℕ → List (List ℕ)
-past_blank [] = []
-past_blank (b ∷ bs) = slice_split is_blank bs
+use Rattle.sb_text.specs.Tokens.{Between, InWord, Lexemes, Next, Word, by_words, place_due, scan, words_of}
 
 one_more : (n : ℕ) → suc n ≡ 1 + n
 one_more n = omega arith
 
-abbrev AtFirst : List ℕ → Type 0
-AtFirst bs = slice_split is_blank bs ≡ take (position_or_len is_blank bs) bs ∷ past_blank (drop (position_or_len is_blank bs) bs)
+-- a word goes on up to the first blank, or to the end
+abbrev WordTo : ℕ → List ℕ → List ℕ → ℕ → Type 0
+WordTo place w bs n = scan by_words (InWord place w) bs ≡ Next place (Word (w ++ take n bs)) (words_of (drop n bs))
 
-parts_at_first : (bs : List ℕ) → AtFirst bs
-parts_at_first [] = refl
-parts_at_first (b ∷ bs) = by_first (is_blank b) (parts_at_first bs)
+word_ends : (place : ℕ) (w : List ℕ) (b : ℕ) (bs : List ℕ) → is_blank b ≡ true → WordTo place w (b ∷ bs) 0
+word_ends place w b bs h = rw (h) (ap (λ v. Next place (Word v) (scan by_words (Between (length (b ∷ bs))) bs)) (sym (append-nil w)))
+
+word_on : (place : ℕ) (w : List ℕ) (b : ℕ) (bs : List ℕ) (n : ℕ) → is_blank b ≡ false → WordTo place (w ++ b ∷ []) bs n → WordTo place w (b ∷ bs) (suc n)
+word_on place w b bs n h k =
+    rw (h) (k ∙ ap (λ v. Next place (Word v) (words_of (drop n bs))) (append_assoc w (b ∷ []) (take n bs)))
+
+word_to : (place : ℕ) (w bs : List ℕ) → WordTo place w bs (position_or_len is_blank bs)
+word_to place w [] = ap (λ v. Next place (Word v) (words_of [])) (sym (append-nil w))
+word_to place w (b ∷ bs) = by_first (is_blank b) refl (word_to place (w ++ b ∷ []) bs)
   where
-    by_first : (t : Bool) → AtFirst bs → cond t ([] ∷ slice_split is_blank bs) (onto_first b (slice_split is_blank bs))
-        ≡ take (cond (not t) (1 + position_or_len is_blank bs) 0) (b ∷ bs) ∷ past_blank (drop (cond (not t) (1 + position_or_len is_blank bs) 0) (b ∷ bs))
-    by_first true h = refl
-    by_first false h = subst (λ n. onto_first b (slice_split is_blank bs) ≡ take n (b ∷ bs) ∷ past_blank (drop n (b ∷ bs))) (one_more _) (ap (onto_first b) h)
+    by_first : (t : Bool) → is_blank b ≡ t → WordTo place (w ++ b ∷ []) bs (position_or_len is_blank bs)
+        → WordTo place w (b ∷ bs) (cond (not t) (1 + position_or_len is_blank bs) 0)
+    by_first true t h = word_ends place w b bs t
+    by_first false t h = subst (WordTo place w (b ∷ bs)) (one_more _) (word_on place w b bs (position_or_len is_blank bs) t h)
 
-words_past : (cs : List ℕ) → (0 < length cs → is_blank (get_or cs 0 0) ≡ true) → filter is_some_word (past_blank cs) ≡ words_of cs
-words_past [] h = refl
-words_past (c ∷ cs) h = let k : is_blank c ≡ true = h (omega arith) in rw (k) refl
+-- the first word of bytes that begin with none
+abbrev FirstTo : ℕ → List ℕ → ℕ → Type 0
+FirstTo end bs n = scan by_words (Between end) bs ≡ Next (length bs) (Word (take n bs)) (words_of (drop n bs))
 
-starts_word : (bs : List ℕ) → 0 < length bs → is_blank (get_or bs 0 0) ≡ false → 0 < position_or_len is_blank bs
-starts_word [] h k = absurd (omega arith)
-starts_word (b ∷ bs) h k = grind (arith, nat_tests, common_steps)
+first_to : (end b : ℕ) (bs : List ℕ) (n : ℕ) → is_blank b ≡ false → WordTo (length (b ∷ bs)) (b ∷ []) bs n → FirstTo end (b ∷ bs) (suc n)
+first_to end b bs n h k = rw (h) k
 
-kept : (w : List ℕ) (ws : List (List ℕ)) → 0 < length w → filter is_some_word (w ∷ ws) ≡ w ∷ filter is_some_word ws
-kept [] ws h = absurd (omega arith)
-kept (b ∷ w) ws h = refl
-
-stops : (bs : List ℕ) → 0 < length (drop (position_or_len is_blank bs) bs) → is_blank (get_or (drop (position_or_len is_blank bs) bs) 0 0) ≡ true
-stops [] h = absurd (omega arith)
-stops (b ∷ bs) h = grind (arith, nat_tests, common_steps, stops bs)
-
-pub words_at_first : (bs : List ℕ) → 0 < length bs → is_blank (get_or bs 0 0) ≡ false → words_of bs ≡ take (position_or_len is_blank bs) bs ∷ words_of (drop (position_or_len is_blank bs) bs)
-words_at_first bs h k =
-    let n = position_or_len is_blank bs in
-    ap (filter is_some_word) (parts_at_first bs)
-    ∙ kept (take n bs) (past_blank (drop n bs)) (grind (arith, nat_tests, common_steps, starts_word bs h k))
-    ∙ ap (λ ws. take n bs ∷ ws) (words_past (drop n bs) (stops bs))
-
--- a line has no more words than bytes
-
-onto_few : (b : ℕ) (parts : List (List ℕ)) → length (filter is_some_word (onto_first b parts)) ≤ 1 + length (filter is_some_word parts)
-onto_few b [] = omega arith
-onto_few b ([] ∷ parts) = omega arith
-onto_few b ((c ∷ part) ∷ parts) = omega arith
-
-pub words_few : (line : List ℕ) → length (words_of line) ≤ length line
-words_few [] = omega arith
-words_few (b ∷ line) = by_blank (is_blank b) (words_few line) (onto_few b (slice_split is_blank line))
+pub words_at_first : (end : ℕ) (bs : List ℕ) → 0 < length bs → is_blank (get_or bs 0 0) ≡ false → FirstTo end bs (position_or_len is_blank bs)
+words_at_first end [] h k = absurd (omega arith)
+words_at_first end (b ∷ bs) h k = at_place (not (is_blank b)) (ap not k)
   where
-    by_blank : (t : Bool) → length (words_of line) ≤ length line
-        → length (filter is_some_word (onto_first b (slice_split is_blank line))) ≤ 1 + length (words_of line)
-        → length (filter is_some_word (cond t ([] ∷ slice_split is_blank line) (onto_first b (slice_split is_blank line)))) ≤ length (b ∷ line)
-    by_blank true h k = omega (arith, h)
-    by_blank false h k = omega (arith, h, k)
+    at_place : (t : Bool) → t ≡ true → FirstTo end (b ∷ bs) (cond t (1 + position_or_len is_blank bs) 0)
+    at_place true e =
+        subst (FirstTo end (b ∷ bs)) (one_more _) (first_to end b bs (position_or_len is_blank bs) k (word_to (length (b ∷ bs)) (b ∷ []) bs))
+    at_place false e = absurd (false≢true e)
+
+-- the place of the first word
+pub place_begun : (line begun : List ℕ) → scan by_words (Between (length line)) begun ≡ words_of line → 0 < length begun
+    → is_blank (get_or begun 0 0) ≡ false → length begun ≡ place_due (words_of line)
+place_begun line begun e h k = sym (ap place_due (words_at_first (length line) begun h k)) ∙ ap place_due e

@@ -1,10 +1,9 @@
 pub mod Lines
 pub mod Numbers
 pub mod Tokens
+pub mod TokenCodes
 pub mod Utf8
-pub mod Words
 pub mod Steps
-pub mod WordVersions
 pub mod Readings
 pub mod LineLaws
 pub mod TokenLaws
@@ -13,6 +12,6 @@ pub mod Utf8Laws
 pub mod ReadingLaws
 pub mod PlainLines
 pub mod Strings
-pub mod Spots
-pub mod SpotLaws
+pub mod Columns
+pub mod ColumnLaws
 pub mod MissingTexts

@@ -4,9 +4,8 @@ use Rattle.std.specs.List.{flat_map, list_all}
 use Rattle.std.specs.Str.{IsUtf8, is_utf8}
 use Rattle.sb_text.specs.LineLaws.{ended}
 use Rattle.sb_text.specs.Lines.{NumberedLine, lines_of}
-use Rattle.sb_text.specs.TokenLaws.{is_quoted_byte, written_line}
-use Rattle.sb_text.specs.Tokens.{Lexeme, Word, Quoted, Bad, tokens_of}
-use Rattle.sb_text.specs.Words.{is_some_word, words_of}
+use Rattle.sb_text.specs.TokenLaws.{is_quoted_byte, is_some_word, placed, written_line}
+use Rattle.sb_text.specs.Tokens.{Lexeme, Word, Quoted, Bad, tokens_of, words_of}
 
 -- printable ASCII after `#`
 abbrev pub is_plain_byte : ℕ → Bool
@@ -49,8 +48,8 @@ PlainLinesAreRead = (lines : List (List Lexeme)) → list_all is_plain_line line
 
 -- a line of plain tokens has these tokens
 abbrev pub PlainTokensAreRead : Type 0
-PlainTokensAreRead = (tokens : List Lexeme) → is_plain_line tokens ≡ true → tokens_of (written_line tokens) ≡ tokens
+PlainTokensAreRead = (tokens : List Lexeme) → is_plain_line tokens ≡ true → tokens_of (written_line tokens) ≡ placed tokens
 
 -- and one of plain words has these words
 abbrev pub PlainWordsAreRead : Type 0
-PlainWordsAreRead = (words : List (List ℕ)) → is_plain_line (map Word words) ≡ true → words_of (written_line (map Word words)) ≡ words
+PlainWordsAreRead = (words : List (List ℕ)) → is_plain_line (map Word words) ≡ true → words_of (written_line (map Word words)) ≡ placed (map Word words)

@@ -1,18 +1,18 @@
 -- Reading a text line by line, with the first fault, its line and its column. K is the kind of fault, D what is read.
 use Rattle.std.specs.Prelude.{ℕ, ◌+◌, nat_lt, Bool, true, false, List, [], ◌∷◌, Option, None, Some, Result, Ok, Err, if◌then◌else◌}
 use Rattle.sb_text.specs.Lines.{NumberedLine, lines_of}
-use Rattle.sb_text.specs.Spots.{column_at}
+use Rattle.sb_text.specs.Columns.{column_at}
 use Rattle.sb_text.specs.Steps.{◌>>=◌}
 use Rattle.sb_text.specs.Utf8.{Place, not_utf8_place}
 use Rattle.sb_base.specs.declared.refusals.Refused.{Refused}
 use Rattle.sb_base.specs.declared.refusals.Refused.TheVariants.{Fault, NoMemory}
 use Rattle.sb_text.specs.declared.refusals.LineFault.{LineFault}
 use Rattle.sb_text.specs.declared.refusals.TokenFault.{TokenFault}
-use Rattle.sb_text.specs.declared.spots.Layout.{Layout}
+use Rattle.sb_text.specs.declared.columns.Layout.{Layout}
 
 -- a fault on the line of this number and text, in the column of its place
 abbrev pub fault_on : {K : Type 0} → Layout → ℕ → List ℕ → TokenFault K → LineFault K
-fault_on layout number text fault = record { line = number; column = column_at layout text fault.left fault.unit; kind = fault.kind }
+fault_on layout number text fault = record { line = number; column = column_at layout text fault.place; kind = fault.kind }
 
 -- what was read of a line, or its fault there
 abbrev pub on_line : {A K : Type 0} → Layout → NumberedLine → Result A (TokenFault K) → Result A (LineFault K)

@@ -1,7 +1,8 @@
 -- Where bytes are not UTF-8.
 use Rattle.std.specs.Prelude.{ℕ, ◌+◌, ◌==◌, nat_lt, List, [], ◌∷◌, length, take, Option, None, Some, if◌then◌else◌}
 use Rattle.std.specs.Str.Lossy.{utf8_valid_len}
-use Rattle.sb_text.specs.Spots.{by_tokens, is_character}
+use Rattle.sb_text.specs.Columns.{is_character}
+use Rattle.sb_text.specs.Tokens.{by_tokens}
 
 -- a place of a text: its line and its column, each from 1
 pub record Place : Type 0 where

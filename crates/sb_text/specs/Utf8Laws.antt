@@ -2,7 +2,8 @@
 use Rattle.std.specs.Prelude.{◌≡◌, ℕ, ◌+◌, ◌==◌, List, ◌++◌, ◌∷◌, take, count_by, None, Some, true}
 use Rattle.std.specs.Str.{IsUtf8, IsValidUpTo}
 use Rattle.sb_text.specs.LineLaws.{is_line}
-use Rattle.sb_text.specs.Spots.{by_tokens, characters}
+use Rattle.sb_text.specs.Columns.{characters}
+use Rattle.sb_text.specs.Tokens.{by_tokens}
 use Rattle.sb_text.specs.Utf8.{first_place, not_utf8_place, place_after}
 
 -- there is no such place if all bytes are UTF-8; else it is right after their longest front that is

@@ -1,10 +1,9 @@
 // The lines of bytes that are neither blank nor comments, one after another.
 ghost use Rattle.std.specs.Prelude.{◌≡◌, ◌∷◌, ◌+◌, ◌<◌, ◌^◌, [], length, IfSome, MatchOption};
 ghost use Rattle.sb_text.specs.Lines.{NumberedLine, lines_of};
-ghost use Rattle.sb_text.specs.Words.{words_of};
+ghost use Rattle.sb_text.specs.Tokens.{words_of};
 
-use crate::blanks::is_skipped;
-use crate::cuts::{bytes_without_cr, cut_bytes};
+use crate::lines::{bytes_without_cr, cut_bytes, is_skipped};
 use crate::words::Words;
 use std::marker::Model;
 

@@ -2,8 +2,8 @@
 ghost use Rattle.sb_text.specs.ReadingLaws.{FirstFaultsStay, LinesBeforeAreRead, SkippedLinesCountAlone};
 ghost use Rattle.sb_text.specs.LineLaws.{WrittenRawLinesAreRead, RawLinesAreLines, WrittenLinesAreRead, LinesHoldNoLf, RawLinesJoin, LinesAreCounted, LinesAppend, SayingLinesAppend, NumbersAreWithin, OneCrIsDropped, OtherEndsAreKept};
 ghost use Rattle.sb_text.specs.Utf8Laws.{NotUtf8PlaceTells, PlacesAreCounted};
-ghost use Rattle.sb_text.specs.TokenLaws.{TokenIsReadBeforeBlank, BrokenTokensAreBad, WrittenTokensAreRead, TokensAreFound, BlanksAreNothing, PlainLinesHaveWords, SayingLinesHaveTokens, FirstTokenSkips, QuotedTokensAreText};
-ghost use Rattle.sb_text.specs.SpotLaws.{ColumnsAreWithin, TokensHaveStarts};
+ghost use Rattle.sb_text.specs.TokenLaws.{TokenIsReadBeforeBlank, BrokenTokensAreBad, WrittenTokensAreRead, TokensAreCut, TokensAreFound, BlanksAreNothing, PlainLinesHaveWords, SayingLinesHaveTokens, FirstTokenSkips, QuotedTokensAreText};
+ghost use Rattle.sb_text.specs.ColumnLaws.{ColumnsAreCounted, ColumnsAreWithin};
 ghost use Rattle.sb_text.specs.Strings.{StringsComeBack, QuotedStringsAreText};
 ghost use Rattle.sb_text.specs.NumberLaws.{DecimalsAreRead, HexadecimalsAreRead};
 ghost use Rattle.sb_text.specs.PlainLines.{PlainLinesAreUtf8, PlainLinesAreRead, PlainTokensAreRead, PlainWordsAreRead};
@@ -53,12 +53,12 @@ pub fn numbers_are_within()
     ensures { NumbersAreWithin }
 {}
 
-/// A blank at either end of a line changes nothing.
+/// A blank at either end of a line changes no token.
 pub fn blanks_are_nothing()
     ensures { BlanksAreNothing }
 {}
 
-/// A token and a blank: the token is found, and the rest of the line is read for itself.
+/// A token and a blank: the token is found, and what follows it is read for itself.
 pub fn token_is_read_before_blank()
     ensures { TokenIsReadBeforeBlank }
 {}
@@ -69,7 +69,7 @@ pub fn broken_tokens_are_bad()
     ensures { BrokenTokensAreBad }
 {}
 
-/// Tokens that are written on a line, with one space between each two, are read back.
+/// Tokens that are written on a line, with one space between each two, are read back, each where it was written.
 pub fn written_tokens_are_read()
     ensures { WrittenTokensAreRead }
 {}
@@ -77,6 +77,13 @@ pub fn written_tokens_are_read()
 /// Each token of a line can be written, except that the last may be bytes that break the rules.
 pub fn tokens_are_found()
     ensures { TokensAreFound }
+{}
+
+/// Each line is cut into its tokens, and into its words: blanks and a token, after which there is a blank or nothing, and so on. The place of a
+/// token is where it begins, and that of the end where the last token ends.
+#[tactic(auto, using(crate::proofs::TokenCuts::tokens_cut))]
+pub fn tokens_are_cut()
+    ensures { TokensAreCut }
 {}
 
 /// In a text that is UTF-8, what each quoted token holds is UTF-8, with no `"` and no character below 32.
@@ -141,9 +148,10 @@ pub fn places_are_counted()
     ensures { PlacesAreCounted }
 {}
 
-/// Each token of a line has its start, and each word of bytes: so a number of tokens that are left names one place.
-pub fn tokens_have_starts()
-    ensures { TokensHaveStarts }
+/// The column of the place between two parts of a line is one more than the number of characters of the first.
+#[tactic(auto, using(crate::proofs::ColumnLaws::columns_counted))]
+pub fn columns_are_counted()
+    ensures { ColumnsAreCounted }
 {}
 
 /// A column is from 1 to one more than the number of bytes of the line.

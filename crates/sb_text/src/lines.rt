@@ -1,12 +1,217 @@
-// The lines of a text that are neither blank nor comments, one after another.
-ghost use Rattle.std.specs.Prelude.{◌≡◌, ◌∷◌, ◌+◌, ◌<◌, ◌≤◌, ◌^◌, ◌==◌, ◌&&◌, [], length, nat_lt, slice_index, IfSome, MatchOption};
-ghost use Rattle.sb_text.specs.Lines.{NumberedLine, lines_of, lines_from, raw_lines};
+// The lines of a text, and those that are neither blank nor comments, one after another.
+ghost use Rattle.std.specs.Prelude.{◌≡◌, drop, true, ◌∷◌, ◌==◌, ◌<◌, ◌≤◌, ◌+◌, ◌-◌, ◌^◌, [], length, map, take, count_by, slice_get, slice_index, slice_range, ℕ, nat_lt, None, Some, IfSome, MatchOption, ◌&&◌};
+ghost use Rattle.sb_text.specs.Lines.{is_blank, is_skipped, line_numbered, raw_lines, raw_lines_from, without_cr, NumberedLine, lines_of, lines_from};
+ghost use Rattle.std.specs.List.{position_or_len};
 ghost use Rattle.sb_text.specs.Tokens.{tokens_of};
 
-use crate::blanks::is_skipped;
-use crate::cuts::{after_ascii, cut_text, text_without_cr};
 use crate::tokens::Tokens;
+use memchr::memchr;
 use std::marker::Model;
+use std::ops::Range;
+use std::simd::prelude::*;
+
+/// Whether a byte is a space or a tab.
+pub(crate) fn is_blank(byte: u8) -> bool
+    ensures { result ≡ is_blank byte }
+{
+    byte == b' ' || byte == b'\t'
+}
+
+/// Whether a line is blank or a comment: it holds blanks alone, or its first other byte is `#`.
+pub(crate) fn is_skipped(line: &[u8]) -> bool
+    ensures { result ≡ is_skipped line.now }
+{
+    for byte in line {
+        if !is_blank(*byte) {
+            return *byte == b'#';
+        }
+    }
+    true
+}
+
+// How many bytes precede the first LF, all if there is none.
+fn lf_place(bytes: &[u8]) -> usize
+    ensures value { result ≡ position_or_len (λ b. b == 10) bytes.now }
+    ensures within { result ≤ length bytes.now }
+{
+    memchr(b'\n', bytes).unwrap_or(bytes.len())
+}
+
+// The same. No search begins for an empty line.
+fn line_len(bytes: &[u8]) -> usize
+    ensures value { result ≡ position_or_len (λ b. b == 10) bytes.now }
+    ensures within { result ≤ length bytes.now }
+{
+    match bytes {
+        [b'\n', ..] => 0,
+        _ => lf_place(bytes),
+    }
+}
+
+// How many bytes of a line precede the one CR at its end, all if there is none.
+fn text_len(line: &[u8]) -> usize
+    ensures value { take result line.now ≡ without_cr line.now }
+    ensures within { result ≤ length line.now }
+{
+    match line {
+        [.., b'\r'] => line.len() - 1,
+        _ => line.len(),
+    }
+}
+
+/// What follows an ASCII character of a text.
+pub(crate) fn after_ascii(text: &str, at: usize) -> &str
+    requires within { at < length text.now }
+    requires ascii { slice_index text.now at < 128 }
+    ensures { result.now ≡ drop (at + 1) text.now }
+{
+    &text[at + 1..]
+}
+
+// What follows the LF at a place of a text, nothing if the text ends there.
+fn after_lf(text: &str, end: usize) -> &str
+    requires { end < length text.now → slice_index text.now end ≡ 10 }
+    ensures { result.now ≡ drop (end + 1) text.now }
+{
+    if end < text.len() {
+        after_ascii(text, end)
+    } else {
+        ""
+    }
+}
+
+// The same of bytes.
+fn after(bytes: &[u8], end: usize) -> &[u8]
+    ensures { result.now ≡ drop (end + 1) bytes.now }
+{
+    if end < bytes.len() {
+        &bytes[end + 1..]
+    } else {
+        &[]
+    }
+}
+
+// The first line of a text, without its LF, and what follows it.
+#[tactic(auto, using(crate::proofs::LineLemmas::lines_at_first, crate::proofs::LineLemmas::lf_at_first))]
+fn cut_text(text: &str) -> Option<(&str, &str)>
+    ensures line { MatchOption result (text.now ≡ []) (λ cut. raw_lines text.now ≡ cut.0.now ∷ raw_lines cut.1.now) }
+    ensures within { IfSome result (λ cut. length cut.0.now ≤ length text.now) }
+    ensures shorter { IfSome result (λ cut. length cut.1.now < length text.now) }
+{
+    if text.is_empty() {
+        return None;
+    }
+    let end = line_len(text.as_bytes());
+    Some((&text[..end], after_lf(text, end)))
+}
+
+/// The first line of bytes, without its LF, and what follows it.
+#[tactic(auto, using(crate::proofs::LineLemmas::lines_at_first, crate::proofs::LineLemmas::raw_lines_at_first))]
+pub(crate) fn cut_bytes(bytes: &[u8]) -> Option<(&[u8], &[u8])>
+    ensures line { MatchOption result (bytes.now ≡ []) (λ cut. raw_lines bytes.now ≡ cut.0.now ∷ raw_lines cut.1.now) }
+    ensures raw { IfSome result (λ cut. (n : ℕ) → raw_lines_from n bytes.now
+        ≡ record { number = n; bytes = cut.0.now; is_ended = nat_lt (length cut.0.now) (length bytes.now) } ∷ raw_lines_from (n + 1) cut.1.now) }
+    ensures parts { IfSome result (λ cut. (cut.0.now ≡ take (length cut.0.now) bytes.now) × (cut.1.now ≡ drop (length cut.0.now + 1) bytes.now)) }
+    ensures within { IfSome result (λ cut. length cut.0.now ≤ length bytes.now) }
+    ensures shorter { IfSome result (λ cut. length cut.1.now < length bytes.now) }
+{
+    if bytes.is_empty() {
+        return None;
+    }
+    let end = line_len(bytes);
+    Some((&bytes[..end], after(bytes, end)))
+}
+
+// A line of a text without one CR at its end.
+fn text_without_cr(line: &str) -> &str
+    ensures value { result.now ≡ without_cr line.now }
+    ensures within { length result.now ≤ length line.now }
+{
+    &line[..text_len(line.as_bytes())]
+}
+
+/// A line of bytes without one CR at its end.
+pub(crate) fn bytes_without_cr(line: &[u8]) -> &[u8]
+    ensures value { result.now ≡ without_cr line.now }
+    ensures within { length result.now ≤ length line.now }
+{
+    &line[..text_len(line)]
+}
+
+/// The number of lines of fewer than 2^32 bytes: the number of LF, and one more if bytes follow the last LF.
+pub fn line_count(bytes: &[u8]) -> u32
+    requires { length bytes.now < 2 ^ 32 }
+    ensures { result ≡ length (raw_lines bytes.now) }
+{
+    let mut rest = bytes;
+    let mut count = 0;
+    while let Some((_, later)) = cut_bytes(rest) {
+        rest = later;
+        count += 1;
+    }
+    count
+}
+
+// The bytes of a vector.
+const LANES: usize = 64;
+
+// The number of LFs among the first sixty-four bytes.
+fn lfs_in(bytes: &[u8]) -> u32
+    requires { LANES ≤ length bytes.now }
+    ensures { result ≡ count_by (λ b. b == 10) (take LANES bytes.now) }
+{
+    u8x64::from_slice(bytes)
+        .simd_eq(u8x64::splat(b'\n'))
+        .to_bitmask()
+        .count_ones()
+}
+
+// What is left of a text once vectors of bytes are passed, and how many lines of it, of which the first may be a part of one, are before the line
+// that has this many before it. No vector in which that line begins is passed, nor any after it.
+fn after_vectors(text: &[u8], before: u32) -> (&[u8], u32)
+    ensures line { slice_get (map without_cr (raw_lines result.0.now)) result.1 ≡ slice_get (map without_cr (raw_lines text.now)) before }
+    ensures rest { drop (length text.now - length result.0.now) text.now ≡ result.0.now }
+    ensures within { length result.0.now ≤ length text.now }
+{
+    let mut rest = text;
+    let mut left = before;
+    while rest.len() >= LANES {
+        let passed = lfs_in(rest);
+        if left <= passed {
+            return (rest, left);
+        }
+        left -= passed;
+        rest = rest.split_at(LANES).1;
+    }
+    (rest, left)
+}
+
+/// Where the line of this number, from 1 among all lines, is in a text, without its LF and without one CR at its end; None if there is no such line.
+#[tactic(auto, using(crate::proofs::LineLemmas::rest_kept, crate::proofs::LineLemmas::line_in_text))]
+pub(crate) fn line_place(number: u32, text: &[u8]) -> Option<Range<usize>>
+    ensures line { MatchOption result (line_numbered number text.now ≡ None) (λ place. line_numbered number text.now ≡ Some (slice_range text.now place.start place.end)) }
+    ensures within { IfSome result (λ place. (place.start ≤ place.end) × (place.end ≤ length text.now)) }
+{
+    let (mut rest, mut before) = after_vectors(text, number.saturating_sub(1));
+    while let Some((line, later)) = cut_bytes(rest) {
+        if before == 0 {
+            let start = text.len() - rest.len();
+            return Some(start..start + text_len(line));
+        }
+        rest = later;
+        before -= 1;
+    }
+    None
+}
+
+/// The line of this number, from 1 among all lines, without its LF and without one CR at its end; None if there is no such line.
+pub fn line_numbered(number: u32, text: &[u8]) -> Option<&[u8]>
+    ensures line { MatchOption result (line_numbered number text.now ≡ None) (λ line. line_numbered number text.now ≡ Some line.now) }
+    ensures within { IfSome result (λ line. length line.now ≤ length text.now) }
+{
+    let place = line_place(number, text)?;
+    Some(&text[place])
+}
 
 /// A line that is neither blank nor a comment.
 #[derive(Clone, Copy)]

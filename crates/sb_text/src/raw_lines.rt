@@ -2,7 +2,7 @@
 ghost use Rattle.std.specs.Prelude.{◌≡◌, ◌∷◌, ◌<◌, ◌^◌, [], length, MatchOption};
 ghost use Rattle.sb_text.specs.Lines.{NumberedRawLine, numbered_raw_lines};
 
-use crate::cuts::cut_bytes;
+use crate::lines::cut_bytes;
 use std::marker::Model;
 
 /// A line as it is between LFs.

@@ -1,16 +1,125 @@
-// Reading a text line by line, with the first fault, its line and its column.
-ghost use Rattle.std.specs.Prelude.{◌≡◌, ◌+◌, ◌<◌, ◌^◌, length};
-ghost use Rattle.sb_base.specs.declared.refusals.Refused.TheVariants.{Fault};
-ghost use Rattle.sb_text.specs.Readings.{read_lines, read_by, read_text, refused_on, without_column};
+// Reading a text line by line by a grammar, with the first fault, its line and its column.
+ghost use Rattle.std.specs.Prelude.{◌≡◌, ◌∷◌, ◌+◌, ◌<◌, ◌^◌, [], List, length, IfSome, MatchOption};
+ghost use Rattle.sb_text.specs.Lines.{NumberedLine};
+ghost use Rattle.sb_text.specs.Readings.{Grammar, read_lines, read_by, read_text, refused_on, without_column};
 ghost use Rattle.sb_base.specs.Refusals.{Gives};
+ghost use Rattle.sb_text.specs.Steps.{Becomes};
+ghost use Rattle.sb_base.specs.declared.refusals.Refused.TheVariants.{Fault};
 
-use crate::grammars::TextGrammar;
-use crate::lines::Lines;
+use crate::byte_lines::{ByteLine, ByteLines};
+use crate::columns::{Layout, column_at};
+use crate::lines::{Line, Lines};
 use crate::refusals::{LineFault, TokenFault};
-use crate::spots::{Layout, column_at};
-use crate::text_lines::TextLines;
 use crate::utf8::text_of;
 use sb_base::Refused;
+
+/// The lines of a text that are neither blank nor comments, one after another.
+pub trait TextLines: Drop {
+    /// A line.
+    type Line: Drop;
+
+    ghost left: { Self → List NumberedLine };
+
+    ghost numbered: { Self.Line → NumberedLine };
+
+    /// The next line that is neither blank nor a comment.
+    fn next_line(&mut self) -> Option<Self::Line>
+        ensures line { MatchOption result ((left self.old ≡ []) × (left self.new ≡ [])) (λ line. left self.old ≡ numbered line ∷ left self.new) }
+        ensures short { IfSome result (λ line. length (numbered line).text + 1 < 2 ^ 32) };
+
+    /// The number of a line in its text, from 1.
+    fn number_of(line: &Self::Line) -> u32
+        ensures { result ≡ (numbered line.now).number };
+
+    /// The bytes of a line.
+    fn bytes_of<'b>(line: &'b Self::Line) -> &'b [u8]
+        ensures { result.now ≡ (numbered line.now).text };
+}
+
+impl<'a> TextLines for Lines<'a> {
+    type Line = Line<'a>;
+
+    ghost left = { λ lines. lines };
+
+    ghost numbered = { λ line. record { number = line.number; text = line.text.now } };
+
+    fn next_line(&mut self) -> Option<Line<'a>> {
+        Lines::next_line(self)
+    }
+
+    fn number_of(line: &Line<'a>) -> u32 {
+        line.number
+    }
+
+    fn bytes_of<'b>(line: &'b Line<'a>) -> &'b [u8] {
+        line.text.as_bytes()
+    }
+}
+
+impl<'a> TextLines for ByteLines<'a> {
+    type Line = ByteLine<'a>;
+
+    ghost left = { λ lines. lines };
+
+    ghost numbered = { λ line. record { number = line.number; text = line.text.now } };
+
+    fn next_line(&mut self) -> Option<ByteLine<'a>> {
+        ByteLines::next_line(self)
+    }
+
+    fn number_of(line: &ByteLine<'a>) -> u32 {
+        line.number
+    }
+
+    fn bytes_of<'b>(line: &'b ByteLine<'a>) -> &'b [u8] {
+        line.text
+    }
+}
+
+/// A grammar of texts whose lines are cut as `L`. It holds what its lines are read with.
+pub trait TextGrammar<L: TextLines> {
+    /// What the lines are read into.
+    type Draft: Drop;
+
+    /// What can be wrong with a line.
+    type Kind: Drop;
+
+    ghost grammar: { Self → Grammar Self.Draft Self.Kind };
+
+    /// What the lines of its texts are made of.
+    fn layout(&self) -> Layout
+        ensures { result ≡ (grammar self.now).layout };
+
+    /// The version that a first line names.
+    ///
+    /// # Errors
+    /// `Fault` exactly if it names none, at the first token that departs.
+    fn version(&self, line: &L::Line) -> Result<u32, Refused<TokenFault<Self::Kind>>>
+        ensures { Gives ((grammar self.now).version (L.numbered line.now).text) result };
+
+    /// What is wrong if there is no first line.
+    fn no_version(&self) -> Self::Kind
+        ensures { result ≡ (grammar self.now).no_version };
+
+    /// What is read before any line after the first.
+    fn start(&self) -> Self::Draft
+        ensures { result ≡ (grammar self.now).start };
+
+    /// What another line of a text of this version, of fewer than 2^32 - 1 bytes, adds to what was read so far. After an error the draft is
+    /// unspecified.
+    ///
+    /// # Errors
+    /// `Fault` exactly if something is wrong with the line, the first such from the left, at its place. `NoMemory` if out of
+    /// memory.
+    fn add(
+        &self,
+        version: u32,
+        draft: &mut Self::Draft,
+        line: &L::Line,
+    ) -> Result<(), Refused<TokenFault<Self::Kind>>>
+        requires { length (L.numbered line.now).text + 1 < 2 ^ 32 }
+        ensures { Becomes ((grammar self.now).add version draft.old (L.numbered line.now)) result draft.new };
+}
 
 /// The refusal of a line as that of its text, with the number of the line and the column of the fault.
 pub fn on_line<K: Drop>(
@@ -23,9 +132,9 @@ pub fn on_line<K: Drop>(
     ensures { result ≡ refused_on layout number text.now refused }
 {
     match refused {
-        Refused::Fault(TokenFault { left, unit, kind }) => Refused::Fault(LineFault {
+        Refused::Fault(TokenFault { place, kind }) => Refused::Fault(LineFault {
             line: number,
-            column: column_at(layout, text, left, unit),
+            column: column_at(layout, text, place),
             kind,
         }),
         Refused::NoMemory => Refused::NoMemory,

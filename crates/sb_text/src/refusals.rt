@@ -2,13 +2,12 @@
 use std::fmt::Display;
 use thiserror::Error;
 
-/// What is wrong with a line, and where: by its tokens, counted from the line's end.
+/// What is wrong with a line, and where.
 #[derive(Clone, Copy)]
 pub struct TokenFault<K> {
-    /// The number of tokens that are left: the one with the fault and all after it, or 0 at the line's end.
-    pub left: usize,
-    /// Within a quoted token the UTF-16 unit, from 0, at whose character the fault is.
-    pub unit: Option<u32>,
+    /// Where the token begins that brings the fault, or, if a token is missing, where the last token of the line ends: the number of bytes from
+    /// there to the line's end.
+    pub place: usize,
     /// What is wrong there.
     pub kind: K,
 }

@@ -1,9 +1,21 @@
 // Parts of texts, without a copy.
-ghost use Rattle.std.specs.Prelude.{◌≡◌};
+ghost use Rattle.std.specs.Prelude.{◌≡◌, ◌≤◌, length};
+ghost use Rattle.sb_text.specs.MissingTexts.{line_or_empty};
 ghost use Rattle.sb_text.specs.Lines.{line_numbered};
 
-use crate::cuts::line_place;
+use crate::lines::{line_numbered, line_place};
 use std::marker::Model;
+
+/// The line of this number, from 1 among all lines, without its LF and without one CR at its end; no bytes if there is no such line.
+pub fn line_or_empty(number: u32, text: &[u8]) -> &[u8]
+    ensures line { result.now ≡ line_or_empty number text.now }
+    ensures within { length result.now ≤ length text.now }
+{
+    match line_numbered(number, text) {
+        Some(line) => line,
+        None => &[],
+    }
+}
 
 /// A part of a text, in the memory of the text.
 #[derive(Drop)]

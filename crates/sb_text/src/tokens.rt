@@ -1,14 +1,16 @@
 // The tokens of a line, one after another.
-ghost use Rattle.std.specs.Prelude.{◌≡◌, ◌∷◌, ◌+◌, ◌<◌, ◌^◌, [], length, None, Some, true, if◌then◌else◌, IfSome, MatchOption};
+ghost use Rattle.std.specs.Prelude.{◌≡◌, ℕ, ◌<◌, ◌≤◌, ◌==◌, [], length, slice_index, false, nat_lt, not, ◌&&◌, ◌||◌, None, Some, true, if◌then◌else◌, IfSome, MatchOption};
+ghost use Rattle.sb_text.specs.Lines.{is_blank};
+ghost use Rattle.sb_text.specs.Tokens.{by_tokens, tokens_of, at_hand, lexeme_of, scan, Next, Between, InWord, InQuote, AfterQuote, End, place_due};
 ghost use Rattle.sb_base.specs.declared.refusals.Refused.TheVariants.{Fault};
-ghost use Rattle.sb_text.specs.Steps.{begins_with, later, is_end, refused_left, with_first};
+ghost use Rattle.sb_text.specs.Columns.{place_within};
+ghost use Rattle.sb_text.specs.Steps.{begins_with, later, is_end, refused_at};
 ghost use Rattle.sb_text.specs.TokenLaws.{is_quotable};
-ghost use Rattle.sb_text.specs.Tokens.{tokens_of, lexeme_of};
 
-use crate::first_tokens::cut_token;
-use crate::laws::{tokens_are_found, tokens_have_starts};
+use crate::columns::bytes_before;
+use crate::laws::tokens_are_found;
+use crate::lines::{after_ascii, is_blank};
 use crate::refusals::TokenFault;
-use crate::spots::{Layout, token_count};
 use sb_base::Refused;
 use std::marker::Model;
 
@@ -23,35 +25,150 @@ pub enum Token<'a> {
     Bad,
 }
 
-/// What is left of a line: its tokens, the next of them at hand.
+// Whether a text begins with a blank.
+fn starts_with_blank(text: &str) -> bool
+    ensures { result ≡ (nat_lt 0 (length text.now) && is_blank (slice_index text.now 0)) }
+{
+    match text.as_bytes() {
+        [first, ..] => is_blank(*first),
+        [] => false,
+    }
+}
+
+// The text without the blanks that it begins with.
+#[tactic(auto, using(crate::proofs::Scans::scan_past_blank))]
+fn without_blanks(text: &str) -> &str
+    ensures tokens { scan by_tokens (Between (length text.now)) result.now ≡ tokens_of text.now }
+    ensures starts { 0 < length result.now → is_blank (slice_index result.now 0) ≡ false }
+    ensures shorter { length result.now ≤ length text.now }
+{
+    let mut rest = text;
+    while starts_with_blank(rest) {
+        rest = after_ascii(rest, 0);
+    }
+    rest
+}
+
+// Whether a word goes on with a byte. Most bytes of words are above `"`, the greatest that ends one.
+fn is_in_word(byte: u8) -> bool
+    ensures { result ≡ not (is_blank byte || byte == 34) }
+{
+    byte > b'"' || !matches!(byte, b' ' | b'\t' | b'"')
+}
+
+// Whether the byte at a place is a quote.
+fn is_quote_at(bytes: &[u8], n: usize) -> bool
+    ensures { result ≡ (nat_lt n (length bytes.now) && slice_index bytes.now n == 34) }
+{
+    match bytes.get(n) {
+        Some(byte) => *byte == b'"',
+        None => false,
+    }
+}
+
+// The word that the text begins with, and what follows it.
+fn word<'a>(text: &'a str) -> (Token<'a>, &'a str)
+    requires some { 0 < length text.now }
+    requires starts { is_blank (slice_index text.now 0) ≡ false }
+    ensures token { (place : ℕ) → scan by_tokens (InWord place []) text.now ≡ Next place (lexeme_of result.0) (tokens_of result.1.now) }
+    ensures shorter { length result.1.now < length text.now }
+{
+    let bytes = text.as_bytes();
+    let mut n = 0;
+    while n < bytes.len() && is_in_word(bytes[n]) {
+        n += 1;
+    }
+    if is_quote_at(bytes, n) {
+        return (Token::Bad, "");
+    }
+    (Token::Word(&bytes[..n]), &text[n..])
+}
+
+// The text up to the next quote, and what follows that.
+fn quoted<'a>(text: &'a str) -> (Token<'a>, &'a str)
+    ensures token { (place : ℕ) → scan by_tokens (InQuote place []) text.now ≡ Next place (lexeme_of result.0) (tokens_of result.1.now) }
+    ensures shorter { length result.1.now ≤ length text.now }
+{
+    let bytes = text.as_bytes();
+    let mut n = 0;
+    while n < bytes.len() && bytes[n] >= 32 {
+        if bytes[n] == b'"' {
+            return closed(&text[..n], after_ascii(text, n));
+        }
+        n += 1;
+    }
+    (Token::Bad, "")
+}
+
+// A quoted token, if a blank or nothing follows its second quote.
+fn closed<'a>(quoted: &'a str, rest: &'a str) -> (Token<'a>, &'a str)
+    ensures token { (place : ℕ) → scan by_tokens (AfterQuote place quoted.now) rest.now ≡ Next place (lexeme_of result.0) (tokens_of result.1.now) }
+    ensures shorter { length result.1.now ≤ length rest.now }
+{
+    match rest.as_bytes() {
+        [first, ..] if !is_blank(*first) => (Token::Bad, ""),
+        _ => (Token::Quoted(quoted), rest),
+    }
+}
+
+// The first token of a text that begins with no blank, and what follows it.
+fn first_token<'a>(text: &'a str) -> (Token<'a>, &'a str)
+    requires some { 0 < length text.now }
+    requires starts { is_blank (slice_index text.now 0) ≡ false }
+    ensures token { (end : ℕ) → scan by_tokens (Between end) text.now ≡ Next (length text.now) (lexeme_of result.0) (tokens_of result.1.now) }
+    ensures shorter { length result.1.now < length text.now }
+{
+    if text.as_bytes()[0] == b'"' {
+        quoted(after_ascii(text, 0))
+    } else {
+        word(text)
+    }
+}
+
+// The first token of a text, if there is one, its place, and what follows it. Nothing follows one that breaks the rules. If there is none, the place is
+// that of the text.
+fn cut_token<'a>(text: &'a str) -> (Option<Token<'a>>, usize, &'a str)
+    ensures { tokens_of text.now ≡ at_hand result.0 result.1 (tokens_of result.2.now) }
+{
+    let begun = without_blanks(text);
+    if begun.is_empty() {
+        return (None, text.len(), begun);
+    }
+    let (token, later) = first_token(begun);
+    (Some(token), begun.len(), later)
+}
+
+/// What is left of a line: its tokens, the next of them at hand, with its place.
 #[derive(Drop)]
 pub struct Tokens<'a> {
     next: Option<Token<'a>>,
+    place: usize,
     rest: &'a str,
 }
 
 impl<'a> Model for Tokens<'a> {
-    ghost use Rattle.std.specs.Prelude.{◌≡◌, ◌+◌, ◌<◌, ◌^◌, List, length, true};
+    ghost use Rattle.std.specs.Prelude.{◌≡◌, true};
     ghost use Rattle.sb_text.specs.TokenLaws.{are_found};
-    ghost use Rattle.sb_text.specs.Tokens.{Lexeme, tokens_of, at_hand};
+    ghost use Rattle.sb_text.specs.TokenCodes.{lexemes_code};
+    ghost use Rattle.sb_text.specs.Tokens.{Lexemes, tokens_of, at_hand};
 
-    ghost Value = { List Lexeme };
+    ghost Value = { Lexemes };
 
-    ghost view = { λ t. at_hand t.next (tokens_of t.rest.now) };
+    ghost coded = { lexemes_code };
 
-    ghost invariant = { λ t. (are_found (at_hand t.next (tokens_of t.rest.now)) ≡ true)
-        × (length (at_hand t.next (tokens_of t.rest.now)) + 1 < 2 ^ 64) };
+    ghost view = { λ t. at_hand t.next t.place (tokens_of t.rest.now) };
+
+    ghost invariant = { λ t. are_found (at_hand t.next t.place (tokens_of t.rest.now)) ≡ true };
 }
 
 impl<'a> Tokens<'a> {
     /// The tokens of a line.
-    #[tactic(auto, using(crate::proofs::TokenLaws::tokens_few))]
     pub fn new(line: &'a str) -> Tokens<'a>
         ensures { result ≡ tokens_of line.now }
     {
         tokens_are_found();
-        let (next, rest) = cut_token(line);
-        Tokens { next, rest }
+        let (next, place, rest) = cut_token(line);
+        Tokens { next, place, rest }
     }
 
     /// The same tokens, to go back to.
@@ -61,19 +178,22 @@ impl<'a> Tokens<'a> {
     {
         Tokens {
             next: self.next,
+            place: self.place,
             rest: self.rest,
         }
     }
 
     /// The next token, which is passed. Nothing is left after one that breaks the rules.
-    #[tactic(auto, using(crate::proofs::TokenLaws::found_next, crate::proofs::TokenLaws::sound_next))]
+    #[tactic(auto, using(crate::proofs::TokenLaws::found_rest, crate::proofs::TokenLaws::sound_next))]
     pub fn next_token(&mut self) -> Option<Token<'a>>
-        ensures token { MatchOption result ((self.old ≡ []) × (self.new ≡ [])) (λ token. self.old ≡ lexeme_of token ∷ self.new) }
+        ensures token { MatchOption result ((self.old ≡ End (place_due self.old)) × (self.new ≡ self.old))
+            (λ token. self.old ≡ Next (place_due self.old) (lexeme_of token) self.new) }
         ensures sound { IfSome result (λ token. is_quotable (lexeme_of token) ≡ true) }
     {
         let token = self.next?;
-        let (next, rest) = cut_token(self.rest);
+        let (next, place, rest) = cut_token(self.rest);
         self.next = next;
+        self.place = place;
         self.rest = rest;
         Some(token)
     }
@@ -81,7 +201,7 @@ impl<'a> Tokens<'a> {
     /// The next token, which is not passed.
     #[inline(always)]
     pub fn peek(&self) -> Option<Token<'a>>
-        ensures { MatchOption result (self.now ≡ []) (λ token. self.now ≡ lexeme_of token ∷ later self.now) }
+        ensures { MatchOption result (self.now ≡ End (place_due self.now)) (λ token. self.now ≡ Next (place_due self.now) (lexeme_of token) (later self.now)) }
     {
         self.next
     }
@@ -90,7 +210,7 @@ impl<'a> Tokens<'a> {
     #[inline(always)]
     #[tactic(auto, using(crate::proofs::TokenLaws::sound_next))]
     pub(crate) fn sound_token(&self) -> Option<Token<'a>>
-        ensures token { MatchOption result (self.now ≡ []) (λ token. self.now ≡ lexeme_of token ∷ later self.now) }
+        ensures token { MatchOption result (self.now ≡ End (place_due self.now)) (λ token. self.now ≡ Next (place_due self.now) (lexeme_of token) (later self.now)) }
         ensures sound { IfSome result (λ token. is_quotable (lexeme_of token) ≡ true) }
     {
         self.next
@@ -104,47 +224,18 @@ impl<'a> Tokens<'a> {
         self.next_token();
     }
 
-    /// The number of tokens that are left. Looks at each byte of them.
-    #[cold]
-    #[inline(never)]
-    pub fn left(&self) -> usize
-        ensures value { result ≡ length self.now }
-        ensures most { result + 1 < 2 ^ 64 }
-    {
-        tokens_have_starts();
-        match self.next {
-            None => 0,
-            Some(_) => 1 + token_count(Layout::Text, self.rest.as_bytes()),
-        }
-    }
-
-    /// This refusal, with its fault at the first token of a line of which these are the others.
+    /// The place of the next token, or, if there is none, where the last token of the line ends: the number of bytes from there to the line's end.
     #[inline(always)]
-    pub fn refuse_first<K: Drop>(&self, refused: Refused<K>) -> Refused<TokenFault<K>>
-        ensures { result ≡ refused_left (with_first self.now) refused }
+    pub fn place(&self) -> usize
+        ensures { result ≡ place_due self.now }
     {
-        match refused {
-            Refused::Fault(kind) => self.fail_first(kind),
-            Refused::NoMemory => Refused::NoMemory,
-        }
+        self.place
     }
 
-    /// This fault at the first token of a line of which these are the others.
-    #[inline(always)]
-    pub fn fail_first<K: Drop>(&self, kind: K) -> Refused<TokenFault<K>>
-        ensures { result ≡ Fault (record { left = with_first self.now; unit = None; kind = kind }) }
-    {
-        Refused::Fault(TokenFault {
-            left: 1 + self.left(),
-            unit: None,
-            kind,
-        })
-    }
-
-    /// This refusal, with its fault at the next token, or at the line's end if there is none.
+    /// This refusal, with its fault at the next token, or where the last one ends if there is none.
     #[inline(always)]
     pub fn refuse<K: Drop>(&self, refused: Refused<K>) -> Refused<TokenFault<K>>
-        ensures { result ≡ refused_left (length self.now) refused }
+        ensures { result ≡ refused_at self.now refused }
     {
         match refused {
             Refused::Fault(kind) => self.fail(kind),
@@ -152,26 +243,35 @@ impl<'a> Tokens<'a> {
         }
     }
 
-    /// This fault at the next token, or at the line's end if there is none.
+    /// This fault at the next token, or where the last one ends if there is none.
     #[inline(always)]
     pub fn fail<K: Drop>(&self, kind: K) -> Refused<TokenFault<K>>
-        ensures { result ≡ Fault (record { left = length self.now; unit = None; kind = kind }) }
+        ensures { result ≡ Fault (record { place = place_due self.now; kind = kind }) }
     {
         Refused::Fault(TokenFault {
-            left: self.left(),
-            unit: None,
+            place: self.place,
             kind,
         })
     }
 
+    // The place of the character of a UTF-16 unit between the quotes of the next token.
+    fn place_within(&self, unit: u32) -> usize
+        ensures { result ≡ place_within unit self.now }
+    {
+        match self.next {
+            Some(Token::Quoted(quoted)) => self
+                .place
+                .saturating_sub(1 + bytes_before(unit, quoted.as_bytes())),
+            _ => self.place,
+        }
+    }
+
     /// This fault at the character of a UTF-16 unit, from 0, between the quotes of the next token.
-    #[inline(always)]
     pub fn fail_within<K: Drop>(&self, unit: u32, kind: K) -> Refused<TokenFault<K>>
-        ensures { result ≡ Fault (record { left = length self.now; unit = Some unit; kind = kind }) }
+        ensures { result ≡ Fault (record { place = place_within unit self.now; kind = kind }) }
     {
         Refused::Fault(TokenFault {
-            left: self.left(),
-            unit: Some(unit),
+            place: self.place_within(unit),
             kind,
         })
     }

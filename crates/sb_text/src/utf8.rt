@@ -4,7 +4,7 @@ ghost use Rattle.std.specs.List.{list_all};
 ghost use Rattle.sb_text.specs.Utf8.{first_place, not_utf8_place, place_after};
 ghost use Rattle.sb_text.specs.Tokens.{string_of};
 
-use crate::spots::Layout;
+use crate::columns::Layout;
 use sb_base::{NoMemory, Wide};
 use simdutf8::from_utf8_baseline;
 use std::alloc::Global;

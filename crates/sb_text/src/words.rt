@@ -1,14 +1,15 @@
-// The words of a line of bytes, cut at blanks alone.
-ghost use Rattle.std.specs.Prelude.{◌≡◌, ◌∷◌, ◌<◌, ◌≤◌, [], length, slice_index, None, MatchOption, false};
+// The words of a line of bytes, cut at blanks alone, and the first line of a text of such lines.
+ghost use Rattle.std.specs.Prelude.{◌≡◌, ℕ, ◌<◌, ◌≤◌, length, slice_index, MatchOption, false};
 ghost use Rattle.std.specs.List.{position_or_len};
 ghost use Rattle.sb_text.specs.Lines.{is_blank};
 ghost use Rattle.sb_base.specs.declared.refusals.Refused.TheVariants.{Fault};
 ghost use Rattle.sb_base.specs.Refusals.{Gives};
-ghost use Rattle.sb_text.specs.Steps.{refused_left, words_end};
-ghost use Rattle.sb_text.specs.Words.{words_of};
+ghost use Rattle.sb_text.specs.Steps.{ReadsAs, end_at, is_end, later, refused_at, version_at, word_at};
+ghost use Rattle.sb_text.specs.Tokens.{Between, End, Next, Word, by_words, place_due, scan, words_of};
 
-use crate::blanks::is_blank;
+use crate::lines::is_blank;
 use crate::refusals::TokenFault;
+use crate::steps::version_digit;
 use sb_base::Refused;
 use std::marker::Model;
 
@@ -19,19 +20,19 @@ pub struct Words<'a> {
 }
 
 impl<'a> Model for Words<'a> {
-    ghost use Rattle.std.specs.Prelude.{List, ℕ, length, ◌<◌, ◌^◌};
-    ghost use Rattle.sb_text.specs.Words.{words_of};
+    ghost use Rattle.sb_text.specs.TokenCodes.{lexemes_code};
+    ghost use Rattle.sb_text.specs.Tokens.{Lexemes, words_of};
 
-    ghost Value = { List (List ℕ) };
+    ghost Value = { Lexemes };
+
+    ghost coded = { lexemes_code };
 
     ghost view = { λ w. words_of w.rest.now };
-
-    ghost invariant = { λ w. length (words_of w.rest.now) < 2 ^ 64 };
 }
 
 // The bytes without the blanks that they begin with.
 fn without_blanks(bytes: &[u8]) -> &[u8]
-    ensures words { words_of result.now ≡ words_of bytes.now }
+    ensures words { scan by_words (Between (length bytes.now)) result.now ≡ words_of bytes.now }
     ensures starts { 0 < length result.now → is_blank (slice_index result.now 0) ≡ false }
 {
     let mut rest = bytes;
@@ -60,14 +61,13 @@ fn word_len(bytes: &[u8]) -> usize
 fn cut_word(bytes: &[u8]) -> (&[u8], &[u8])
     requires some { 0 < length bytes.now }
     requires starts { is_blank (slice_index bytes.now 0) ≡ false }
-    ensures { words_of bytes.now ≡ result.0.now ∷ words_of result.1.now }
+    ensures { (end : ℕ) → scan by_words (Between end) bytes.now ≡ Next (length bytes.now) (Word result.0.now) (words_of result.1.now) }
 {
     bytes.split_at(word_len(bytes))
 }
 
 impl<'a> Words<'a> {
     /// The words of a line.
-    #[tactic(auto, using(crate::proofs::WordLemmas::words_few))]
     pub fn new(line: &'a [u8]) -> Words<'a>
         ensures { result ≡ words_of line.now }
     {
@@ -83,33 +83,41 @@ impl<'a> Words<'a> {
 
     /// The next word, which is passed.
     pub fn next_word(&mut self) -> Option<&'a [u8]>
-        ensures { MatchOption result ((self.old ≡ []) × (self.new ≡ [])) (λ word. self.old ≡ word.now ∷ self.new) }
+        ensures { MatchOption result ((self.old ≡ End (place_due self.old)) × (self.new ≡ self.old))
+            (λ word. self.old ≡ Next (place_due self.old) (Word word.now) self.new) }
     {
-        let rest = without_blanks(self.rest);
-        if rest.is_empty() {
-            self.rest = rest;
+        let begun = without_blanks(self.rest);
+        if begun.is_empty() {
             return None;
         }
-        let (word, later) = cut_word(rest);
+        let (word, later) = cut_word(begun);
         self.rest = later;
         Some(word)
     }
 
-    /// The number of words that are left. Walks over them.
-    pub fn left(&self) -> usize
-        ensures { result ≡ length self.now }
+    /// Passes the next word, if there is one.
+    pub fn pass(&mut self)
+        ensures { self.new ≡ later self.old }
     {
-        let mut words = self.copy();
-        let mut count = 0;
-        while words.next_word().is_some() {
-            count += 1;
-        }
-        count
+        self.next_word();
     }
 
-    /// This refusal, with its fault at the next word, or at the line's end if there is none.
+    /// The place of the next word, or, if there is none, where the last word of the line ends: the number of bytes from there to the line's end.
+    #[tactic(auto, using(crate::proofs::WordLemmas::place_begun))]
+    pub fn place(&self) -> usize
+        ensures { result ≡ place_due self.now }
+    {
+        let begun = without_blanks(self.rest);
+        if begun.is_empty() {
+            self.rest.len()
+        } else {
+            begun.len()
+        }
+    }
+
+    /// This refusal, with its fault at the next word, or where the last one ends if there is none.
     pub fn refuse<K: Drop>(&self, refused: Refused<K>) -> Refused<TokenFault<K>>
-        ensures { result ≡ refused_left (length self.now) refused }
+        ensures { result ≡ refused_at self.now refused }
     {
         match refused {
             Refused::Fault(kind) => self.fail(kind),
@@ -117,24 +125,70 @@ impl<'a> Words<'a> {
         }
     }
 
-    /// This fault at the next word, or at the line's end if there is none.
+    /// This fault at the next word, or where the last one ends if there is none.
     pub fn fail<K: Drop>(&self, kind: K) -> Refused<TokenFault<K>>
-        ensures { result ≡ Fault (record { left = length self.now; unit = None; kind = kind }) }
+        ensures { result ≡ Fault (record { place = place_due self.now; kind = kind }) }
     {
         Refused::Fault(TokenFault {
-            left: self.left(),
-            unit: None,
+            place: self.place(),
             kind,
         })
     }
 
+    /// A word: its bytes. `missing` is the fault of none.
+    pub fn word<K: Drop>(&mut self, missing: K) -> Result<&'a [u8], Refused<TokenFault<K>>>
+        ensures { (quoted bad : K) → ReadsAs (λ word. word.now) (word_at quoted bad missing self.old) result self.new }
+    {
+        match self.next_word() {
+            Some(word) => Ok(word),
+            None => Err(self.fail(missing)),
+        }
+    }
+
+    /// Whether the line ends here.
+    pub fn is_end(&self) -> bool
+        ensures { result ≡ is_end self.now }
+    {
+        self.copy().next_word().is_none()
+    }
+
     /// The line has to end here. `extra` is the fault of an extra word.
     pub fn expect_end<K: Drop>(&self, extra: K) -> Result<(), Refused<TokenFault<K>>>
-        ensures { Gives (words_end extra self.now) result }
+        ensures { (bad : K) → Gives (end_at extra bad self.now) result }
     {
         match self.copy().next_word() {
             None => Ok(()),
             Some(_) => Err(self.fail(extra)),
         }
+    }
+}
+
+/// The version that a first line of these words names: the word `name`, and `1`.
+///
+/// # Errors
+/// `Fault` with this kind exactly if it names none, at the first word that departs.
+pub fn version_in_words<K: Copy + Drop>(
+    kind: K,
+    name: &[u8],
+    line: &Words,
+) -> Result<u32, Refused<TokenFault<K>>>
+    ensures { Gives (version_at kind name.now 1 line.now) result }
+{
+    let mut words = line.copy();
+    match words.next_word() {
+        Some(word) if word == name => {}
+        _ => return Err(line.fail(kind)),
+    }
+    let due = words.copy();
+    let Some(digit) = words.next_word() else {
+        return Err(due.fail(kind));
+    };
+    let Some(version) = version_digit(1, digit) else {
+        return Err(due.fail(kind));
+    };
+    let end = words.copy();
+    match words.next_word() {
+        None => Ok(version),
+        Some(_) => Err(end.fail(kind)),
     }
 }

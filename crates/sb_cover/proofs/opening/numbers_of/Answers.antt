@@ -5,8 +5,10 @@ use Rattle.sb_call.specs.declared.arguments.Arg.{Arg}
 use Rattle.sb_rule.specs.Verdicts.{cond_holds}
 use Rattle.sb_cover.specs.Calls.{met_from}
 use Rattle.sb_cover.specs.Opening.{asked_of}
+use Rattle.sb_cover.specs.PlainQuestions.{is_plain_cond}
 use Rattle.sb_cover.specs.declared.asked_conds.AskedCond.{AskedCond}
 use Rattle.sb_cover.proofs.OpeningLemmas.{more_more, numbers_one}
+use Rattle.sb_cover.proofs.PlainLemmas.{element_passes}
 use Rattle.sb_cover.proofs.opening.numbers_of.Goals as goal
 
 pub loop-cond-preserved : goal.loop-cond-preserved
@@ -23,4 +25,7 @@ loop-cond-preserved c =
           ap (list_all (met_from (new ++ more) 0 args)) c.in_ok-push.ensures.items
           ∙ numbers_one old new c.args.rule_conds.now c.args.is_cut c.loop-cond.numbers.items n c.loop-cond.cond-index item c.loop-cond-test.true c.in_ok-number.ensures.more
           c.loop-cond.invariant.met (λ more args. met more args ∙ ap (λ x. cond_holds x (asked_of c.args.is_cut args)) c.cond-item.is) more args;
+      plain = λ all before.
+          c.in_ok-number.ensures.plain (element_passes is_plain_cond c.args.rule_conds.now c.loop-cond.cond-index item c.loop-cond-test.true c.cond-item.is all)
+          (c.loop-cond.invariant.plain all before);
     }

@@ -1,9 +1,12 @@
+use Rattle.std.specs.List.{list_all}
 use Rattle.std.specs.Prelude.{IfSome}
-use Rattle.std.proofs.Common.{◌≡◌, ◌∙◌, ◌++◌, ◌∷◌, ◌+◌, [], ap, refl, subst, sym, take}
+use Rattle.std.proofs.Common.{◌≡◌, ◌∙◌, ◌++◌, ◌∷◌, ◌+◌, [], true, ap, refl, subst, sym, take}
 use Rattle.std.proofs.lemmas.List.{take_more}
 use Rattle.sb_cover.specs.Opening.{AreOpened, AreUnread, AllOpened, AllUnread}
+use Rattle.sb_cover.specs.PlainQuestions.{is_plain_question, is_plain_rule}
 use Rattle.sb_cover.specs.declared.open_rules.OpenQuestion.{OpenQuestion}
 use Rattle.sb_cover.proofs.OpeningLemmas.{questions_push, all_unread_push}
+use Rattle.sb_cover.proofs.PlainLemmas.{element_passes}
 use Rattle.sb_cover.proofs.opening.open_questions.Goals as goal
 
 pub loop-question-preserved : goal.loop-question-preserved
@@ -27,4 +30,8 @@ loop-question-preserved c =
           (questions_push old new c.args.tag (take c.loop-question.question-index c.args.questions.now) c.loop-question.opened question rest c.in_ok-rules.ensures.more refl opened
           c.loop-question.invariant.rules));
       unread = subst AllUnread (sym put) (all_unread_push c.loop-question.opened rest c.loop-question.invariant.unread unread);
+      plain = λ all before.
+          let one : is_plain_question question ≡ true =
+          element_passes is_plain_question c.args.questions.now c.loop-question.question-index question c.loop-question-test.true c.question-item.is all in
+          c.in_ok-rules.ensures.plain (ap (list_all is_plain_rule) c.deref.ensures ∙ one) (c.loop-question.invariant.plain all before);
     }

@@ -1,4 +1,6 @@
 use Rattle.sb_cover.proofs.OpeningLemmas.{more_more, opened_one, unread_put}
+use Rattle.sb_cover.specs.PlainQuestions.{is_plain_rule}
+use Rattle.sb_cover.proofs.PlainLemmas.{element_passes}
 use Rattle.sb_cover.proofs.opening.rules_for.Goals as goal
 
 pub loop-place-preserved : goal.loop-place-preserved
@@ -11,4 +13,7 @@ loop-place-preserved c =
       rules = opened_one old new c.args.tag c.args.rules.now c.args.is_cut c.loop-place.place c.index-rules-place.result c.loop-place.opened c.put_rule.new.opened c.loop-place-test.true c.index-rules-place.is
           c.in_ok-done.ensures.more put c.loop-place.invariant.rules;
       unread = unread_put new c.args.tag c.args.is_cut c.index-rules-place.result c.loop-place.place c.loop-place.opened c.put_rule.new.opened put c.loop-place.invariant.unread;
+      plain = λ all before.
+          c.in_ok-done.ensures.plain (element_passes is_plain_rule c.args.rules.now c.loop-place.place c.index-rules-place.result c.loop-place-test.true c.index-rules-place.is all)
+          (c.loop-place.invariant.plain all before);
     }

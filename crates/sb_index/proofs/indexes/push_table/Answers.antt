@@ -14,6 +14,6 @@ returns-in_ok-push c =
     let table = c.in_ok-new.field-0 in
     let pushed : c.push.new.self.items ≡ tables ++ table ∷ [] = c.in_ok-push.ensures.items in
     record {
-      two = omega (arith, ap length pushed, length_push tables table, c.if-len-lt-MOST_TABLES.true, c.len-then-len-gt0.ensures, c.args.tables.now.ok.0);
+      two = omega (arith, ap length pushed, length_push tables table, c.if-len-lt-MAX_TABLES.true, c.len-then-len-gt0.ensures, c.args.tables.now.ok.0);
       tables = subst (AreTables rules c.args.tag) (sym pushed) (table_pushed rules c.args.tag tables table c.requires.tables c.in_ok-new.ensures);
     }

@@ -1,5 +1,6 @@
 use Rattle.std.proofs.Common.{◌≡◌, ◌++◌, length, false}
 use Rattle.sb_ruletext.specs.Notes.{notes_in}
+use Rattle.sb_text.specs.Tokens.{lexemes}
 use Rattle.sb_ruletext.proofs.notes.put_notes_in.Given as goal
 
 -- the notes that were read and those that follow are those of the line
@@ -9,4 +10,4 @@ invariant-loop-token l =
     ≡ l.initial.notes.items ++ notes_in (record { number = l.line.number; text = l.line.text.now }) false l.initial.tokens
 
 abbrev pub decreases-loop-token : goal.decreases-loop-token
-decreases-loop-token l = length l.tokens
+decreases-loop-token l = length (lexemes l.tokens)

@@ -1,5 +1,5 @@
-use Rattle.sb_text.proofs.TokenLaws.{broken}
+use Rattle.sb_text.proofs.TokenLaws.{broken_tokens}
 use Rattle.sb_text.proofs.laws.broken_tokens_are_bad.Goals as goal
 
 pub returns : goal.returns
-returns c = broken
+returns c = broken_tokens

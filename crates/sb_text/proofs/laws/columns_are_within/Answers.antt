@@ -1,4 +1,4 @@
-use Rattle.sb_text.proofs.SpotLaws.{columns_within}
+use Rattle.sb_text.proofs.ColumnLaws.{columns_within}
 use Rattle.sb_text.proofs.laws.columns_are_within.Goals as goal
 
 pub returns : goal.returns

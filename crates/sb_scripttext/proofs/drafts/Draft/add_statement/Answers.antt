@@ -18,12 +18,12 @@ returns-then-not-self c =
       named = inside.named;
     } in
     let outside : inside.in_thread ≡ false = search rules in
-    subst (λ (old : SoFar). with_statement old c.args.line c.args.statement ≡ Err (UnknownWord Misplaced)) c.self.view_is
-    (statement_refused sofar c.args.line c.args.statement (UnknownWord Misplaced)
+    subst (λ (old : SoFar). with_statement old c.args.at c.args.statement ≡ Err (UnknownWord Misplaced)) c.self.view_is
+    (statement_refused sofar c.args.at c.args.statement (UnknownWord Misplaced)
     (statement_nowhere inside.before inside.last inside.threads inside.in_thread inside.statements c.args.statement c.self.invariant outside))
 
-pub returns-then-len-ge-MOST_STATEMENTS : goal.returns-then-len-ge-MOST_STATEMENTS
-returns-then-len-ge-MOST_STATEMENTS c =
+pub returns-then-len-ge-MAX_STATEMENTS : goal.returns-then-len-ge-MAX_STATEMENTS
+returns-then-len-ge-MAX_STATEMENTS c =
     let inside = c.self.inside in
     let sofar : SoFar = record {
       patience = inside.patience;
@@ -33,8 +33,8 @@ returns-then-len-ge-MOST_STATEMENTS c =
     } in
     let in_thread : inside.in_thread ≡ true = search rules in
     let many : 4096 ≤ length inside.statements = search rules in
-    subst (λ (old : SoFar). with_statement old c.args.line c.args.statement ≡ Err (TooMany Statements)) c.self.view_is
-    (statement_refused sofar c.args.line c.args.statement (TooMany Statements)
+    subst (λ (old : SoFar). with_statement old c.args.at c.args.statement ≡ Err (TooMany Statements)) c.self.view_is
+    (statement_refused sofar c.args.at c.args.statement (TooMany Statements)
     (statement_too_many inside.before inside.last inside.threads inside.in_thread inside.statements c.args.statement c.self.invariant in_thread many))
 
 pub returns : goal.returns
@@ -48,9 +48,9 @@ returns c =
     } in
     let in_thread : inside.in_thread ≡ true = search rules in
     let few : length inside.statements < 4096 = search rules in
-    subst (λ (old : SoFar). with_statement old c.args.line c.args.statement
+    subst (λ (old : SoFar). with_statement old c.args.at c.args.statement
     ≡ Ok (record sofar { targets = built inside.before inside.last inside.threads inside.in_thread c.push.new.self; named = c.add_named.new.named })) c.self.view_is
-    (statement_added sofar c.args.line c.args.statement _ c.add_named.new.named
+    (statement_added sofar c.args.at c.args.statement _ c.add_named.new.named
     (statement_more inside.before inside.last inside.threads inside.in_thread inside.statements c.args.statement c.self.invariant in_thread few
     ∙ ap (λ (statements : List Statement). Ok (built inside.before inside.last inside.threads inside.in_thread statements)) (sym c.in_ok-push.ensures.ok))
     c.in_ok-add_named.ensures)

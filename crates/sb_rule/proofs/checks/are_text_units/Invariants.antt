@@ -1,7 +1,0 @@
-use Rattle.std.proofs.Common.{◌≡◌, drop}
-use Rattle.std.specs.List.{list_all}
-use Rattle.sb_base.specs.Wide.{is_text_unit}
-use Rattle.sb_rule.proofs.checks.are_text_units.Given as goal
-
-abbrev pub invariant-loop-unit : goal.invariant-loop-unit
-invariant-loop-unit l = list_all is_text_unit (drop l.unit-index l.units) ≡ list_all is_text_unit l.units
