@@ -5,6 +5,7 @@
 
 mod calls;
 mod channels;
+mod compares;
 mod covers;
 mod decisions;
 mod literals;

@@ -3,28 +3,34 @@
 use sb_call::CallTag;
 use sb_host::PolicySet;
 use sb_rows::{RowFault, call, put_between, put_word};
-use sb_rule::Verdict;
+use sb_rule::{Verdict, WellMadePolicies};
 use sb_ruletext::{TextRefused, read_policies};
 use std::alloc::Global;
 
 // As many bytes as the sandbox reads of a policy.
 const MAX_BYTES: usize = 4_194_304;
 
-/// The policies `web`, with these rules, separated by semicolons, the first of which is on line 3, and `none`, with no rule.
-pub fn set_of(alloc: Global, rules: &str) -> Result<PolicySet, RowFault> {
-    let mut text = String::from_str(alloc, "sandbox-policy 2\npolicy web\n")?;
-    for rule in rules.split(';') {
-        write!(text, "{rule}\n")?;
+/// The policies of a file whose lines, but the first, are these, separated by semicolons.
+pub fn policies_of(alloc: Global, lines: &str) -> Result<WellMadePolicies, RowFault> {
+    let mut text = String::from_str(alloc, "sandbox-policy 2\n")?;
+    for line in lines.split(';') {
+        write!(text, "{line}\n")?;
     }
-    text.push_str("policy none\n")?;
     if text.len() > MAX_BYTES {
         return Err(RowFault::TooMany);
     }
     match read_policies(alloc, text.as_str().as_bytes()) {
-        Ok(policies) => Ok(PolicySet::new(alloc, policies)?),
+        Ok(policies) => Ok(policies),
         Err(TextRefused::Fault(_)) => Err(RowFault::BadPolicy),
         Err(TextRefused::NoMemory) => Err(RowFault::NoMemory),
     }
+}
+
+/// The policies `web`, with these rules, separated by semicolons, the first of which is on line 3, and `none`, with no rule.
+pub fn set_of(alloc: Global, rules: &str) -> Result<PolicySet, RowFault> {
+    let lines = format!(in alloc; "policy web;{rules};policy none")?;
+    let policies = policies_of(alloc, lines.as_str())?;
+    Ok(PolicySet::new(alloc, policies)?)
 }
 
 // The number of the policy of this name, and how many rules it has.

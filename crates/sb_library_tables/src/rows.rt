@@ -1,6 +1,6 @@
 // The value of a row.
 
-use crate::{calls, covers, decisions, literals, policies};
+use crate::{calls, compares, covers, decisions, literals, policies};
 use sb_rows::{RowFault, arguments};
 use std::alloc::Global;
 
@@ -14,6 +14,7 @@ pub fn value_of(alloc: Global, row: &str) -> Result<String, RowFault> {
             "find-in-none" => policies::found_in_none(alloc, text),
             "adopt" => calls::adopted(alloc, text),
             "client" => calls::began(alloc, text),
+            "cover-text" => compares::covered(alloc, text),
             _ => Err(RowFault::Unknown),
         },
         [rules, second] => match name {
@@ -25,6 +26,7 @@ pub fn value_of(alloc: Global, row: &str) -> Result<String, RowFault> {
             "perform" => decisions::performed(alloc, rules, second),
             "cover" => covers::covered(alloc, rules, second),
             "cover-two" => covers::covered_by_two(alloc, rules, second),
+            "compare" => compares::compared(alloc, rules, second),
             "call" => calls::called(alloc, rules, second),
             "bulk" => calls::called_in_bulk(alloc, rules, second),
             _ => Err(RowFault::Unknown),

@@ -1,0 +1,11 @@
+pub mod Candidates
+pub mod ChangeLines
+pub mod Changes
+pub mod Classes
+pub mod CompareTexts
+pub mod Comparing
+pub mod CoverTexts
+pub mod Decided
+pub mod Faults
+pub mod ShownCalls
+pub mod ShownChanges
