@@ -108,7 +108,7 @@ def items_of_code(text):
     for at, line in enumerate(lines):
         block = re.match(r"(?:pub(?:\([a-z]+\))? )?(impl|trait)\b(?:<.*?>(?= [A-Z]))?(?: .* for)? (\w+)", line)
         declared = re.match(r"(?:pub(?:\([a-z]+\))? )?(?:struct|enum|trait|type|const|static) (\w+)", line)
-        function = re.match(r"( *)(?:pub(?:\([a-z]+\))? )?(?:unsafe |const )*fn (\w+)", line)
+        function = re.match(r"( *)(?:pub(?:\([a-z]+\))? )?(?:unsafe |const |extern \"C\" )*fn (\w+)", line)
         member = re.match(r" +ghost (\w+)(?::| =)", line)
         if declared:
             items.setdefault(declared[1], set())

@@ -16,7 +16,7 @@ from graph import TOP, libraries
 
 IMPORT = re.compile(r"(?:pub(?:\([a-z]+\))? )?(?:use |mod \w+;)")
 CONTRACT = re.compile(r"(?:ensures|requires|ghost)\b")
-FUNCTION = re.compile(r" *(?:pub(?:\([a-z]+\))? )?(?:const )?fn ")
+FUNCTION = re.compile(r" *(?:pub(?:\([a-z]+\))? )?(?:const )?(?:extern \"C\" )?fn ")
 QUOTED = re.compile(r"'[{}\[\]]'|\"(?:[^\"\\]|\\.)*\"")
 
 

@@ -10,3 +10,4 @@ pub mod ChannelRuns
 pub mod CallerSteps
 pub mod Histories
 pub mod Copying
+pub mod Adopting

@@ -7,3 +7,4 @@ pub mod HostLaws
 pub mod ChannelLaws
 pub mod HistoryLaws
 pub mod Blocks
+pub mod AdoptLaws

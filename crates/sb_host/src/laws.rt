@@ -1,4 +1,5 @@
 // Laws of hosts. None of these functions does anything: each contract is a law.
+ghost use Rattle.sb_host.specs.AdoptLaws.{AdoptingEndsAsNew, AdoptingGivesUp, AdoptingLeavesNoneReady};
 ghost use Rattle.sb_host.specs.Calls.{CallsStepAsThreads};
 ghost use Rattle.sb_host.specs.ChannelLaws.{CallsGoAsCallers, CallsHaveTheirReplies};
 ghost use Rattle.sb_host.specs.HistoryLaws.{HostsKeepTheSpace, HostsMakeHistories, HostsReplyAsEntries};
@@ -15,6 +16,15 @@ use sb_actor::{starts_in_rule, thread_keeps_rule, worker_keeps_rule};
 pub fn hosts_are_true_to_what_they_told()
     ensures new { NewHostsAreTrue }
     ensures adopting { AdoptingHostsAreTrue }
+{}
+
+/// A worker that takes over channels which had one first makes one step a channel, in order: it exchanges the state from 3 to 5, so that a call which was
+/// handed over is given up and no later look finds it. Then it is a worker before its first step.
+#[tactic(auto, using(crate::proofs::Adopting::gives_up, crate::proofs::Adopting::none_ready, crate::proofs::Adopting::ends_as_new))]
+pub fn adopting_gives_calls_up()
+    ensures gives_up { AdoptingGivesUp }
+    ensures none_ready { AdoptingLeavesNoneReady }
+    ensures new { AdoptingEndsAsNew }
 {}
 
 /// A host that performs in a namespace of the product's own goes on as one that answers as the namespace does, and its reply is that of the
