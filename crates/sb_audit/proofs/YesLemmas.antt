@@ -3,7 +3,6 @@ use Rattle.std.proofs.Common.{◌≡◌, refl, sym, subst, ap, ◌∙◌, ℕ, �
 use Rattle.std.proofs.lemmas.Bool.{and_parts, false≢true}
 use Rattle.std.proofs.lemmas.Bool.Decides.{nat_tests}
 use Rattle.std.specs.Prelude.{Option, None, Some, nat_eq}
-use Rattle.std.specs.List.{flat_map}
 use Rattle.std.specs.Cmp.Lexicographic.{pointwise}
 use Rattle.sb_call.specs.Arguments.{fits}
 use Rattle.sb_rule.specs.Verdicts.{verdict_of}
@@ -12,8 +11,7 @@ use Rattle.sb_rule.specs.declared.policies.Policy.{Policy}
 use Rattle.sb_rule.specs.declared.verdicts.Verdict.{Verdict}
 use Rattle.sb_rule.specs.declared.verdicts.Verdict.TheVariants as verdict
 use Rattle.sb_statements.specs.declared.scripts.Script.{Script}
-use Rattle.sb_text.specs.LineLaws.{RawLinesJoin, ended, whole}
-use Rattle.sb_text.specs.Lines.{NumberedRawLine, numbered_raw_lines}
+use Rattle.sb_text.specs.Lines.{NumberedRawLine, numbered_raw_lines, without_cr}
 use Rattle.sb_transcript.specs.Fields.{written}
 use Rattle.sb_transcript.specs.ReadingLaws.{ReadLinesAreWritten}
 use Rattle.sb_transcript.specs.declared.read_lines.Line.{Line}
@@ -27,7 +25,7 @@ use Rattle.sb_audit.specs.Before.{entries_of, entry_count, has_totals, result_co
 use Rattle.sb_audit.specs.Clauses.{has_channel, has_rule, is_allow, is_due, is_own, only_reads, reply_due, shows_rule}
 use Rattle.sb_audit.specs.Comparing.{same_numbers, same_reply}
 use Rattle.sb_audit.specs.Dues.{due_after, due_call, due_channel, due_reply, due_rule}
-use Rattle.sb_audit.specs.Laws.{AreRight, EntriesAreRight, IsGranted, IsRightEntry, YesIsOfLines}
+use Rattle.sb_audit.specs.Laws.{AreLines, AreRight, EntriesAreRight, IsGranted, IsRightEntry, YesIsOfLines}
 use Rattle.sb_audit.specs.declared.answers.AuditAnswer.{AuditAnswer}
 use Rattle.sb_audit.specs.declared.answers.AuditAnswer.TheVariants.{Yes}
 use Rattle.sb_audit.specs.declared.dues.Due.{Due}
@@ -38,7 +36,7 @@ use Rattle.sb_audit.specs.declared.dues.Due.TheVariants as due
 -- of lines that are left after others
 pub record AreLeft (policies : List Policy) (script : Script) (before : List Line) (rest : List NumberedRawLine) (entries results : ℕ) : Type 0 where
   pub lines : List Line
-  pub written_so : flat_map whole rest ≡ flat_map (λ l. ended (written l)) lines
+  pub written_so : AreLines rest lines
   pub right : AreRight policies script before lines
   pub totals : has_totals (before ++ lines) ≡ true
   pub entries_are : entry_count (before ++ lines) ≡ entries
@@ -58,7 +56,7 @@ left_none policies script before n entries results h = by_totals (has_totals bef
         subst (λ t. (if t then Yes (entry_count before) (result_count before) else refutation (n + 1) (due_after script before)) ≡ Yes entries results) e h in
         record {
           lines = [];
-          written_so = refl;
+          written_so = tt;
           right = tt;
           totals = ap has_totals (append_none before) ∙ e;
           entries_are = ap entry_count (append_none before) ∙ (cc);
@@ -69,13 +67,13 @@ left_none policies script before n entries results h = by_totals (has_totals bef
         subst (λ t. (if t then Yes (entry_count before) (result_count before) else refutation (n + 1) (due_after script before)) ≡ Yes entries results) e h in
         absurd (cc)
 
--- a line that is read is written as it was, with its LF
-written_as : ReadLinesAreWritten → (raw : NumberedRawLine) (l : Line) → ended_line raw ≡ Some l → whole raw ≡ ended (written l)
-written_as law raw l h = by_end raw.is_ended h
+-- a line that is read is written as it was, without one CR
+written_as : ReadLinesAreWritten → (raw : NumberedRawLine) (l : Line) → ended_line raw ≡ Some l → (raw.is_ended ≡ true) × (without_cr raw.bytes ≡ written l)
+written_as law raw l h = by_end raw.is_ended refl h
   where
-    by_end : (b : Bool) → line_with_end raw.bytes b ≡ Some l → (if b then ended raw.bytes else raw.bytes) ≡ ended (written l)
-    by_end true e = ap ended (sym (law raw.bytes l e))
-    by_end false e = absurd (cc)
+    by_end : (b : Bool) → raw.is_ended ≡ b → line_with_end raw.bytes b ≡ Some l → (raw.is_ended ≡ true) × (without_cr raw.bytes ≡ written l)
+    by_end true q e = (q, sym (law (without_cr raw.bytes) l e))
+    by_end false q e = absurd (cc)
 
 left_by : ReadLinesAreWritten → (policies : List Policy) (script : Script) (before : List Line) (n entries results : ℕ) (rest : List NumberedRawLine)
     → audited_from policies script before n rest ≡ Yes entries results → AreLeft policies script before rest entries results
@@ -98,19 +96,19 @@ left_by law policies script before n entries results (raw ∷ rest) h =
         let joined = append_assoc before (l ∷ []) left.lines in
         record {
           lines = l ∷ left.lines;
-          written_so = ap (λ bytes. bytes ++ flat_map whole rest) (written_as law raw l e) ∙ ap (λ bytes. ended (written l) ++ bytes) left.written_so;
+          written_so = let w = written_as law raw l e in (w.0, w.1, left.written_so);
           right = (parts.0, left.right);
           totals = subst (λ xs. has_totals xs ≡ true) joined left.totals;
           entries_are = subst (λ xs. entry_count xs ≡ entries) joined left.entries_are;
           results_are = subst (λ xs. result_count xs ≡ results) joined left.results_are;
         }
 
-pub yes_is_of_lines : ReadLinesAreWritten → RawLinesJoin → YesIsOfLines
-yes_is_of_lines law joins policies script text entries results h =
+pub yes_is_of_lines : ReadLinesAreWritten → YesIsOfLines
+yes_is_of_lines law policies script text entries results h =
     let left = left_by law policies script [] 0 entries results (numbered_raw_lines text) h in
     record {
       lines = left.lines;
-      written_so = sym (joins text) ∙ left.written_so;
+      written_so = left.written_so;
       right = left.right;
       totals = left.totals;
       entries_are = left.entries_are;

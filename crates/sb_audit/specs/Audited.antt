@@ -5,7 +5,7 @@ use Rattle.sb_book.specs.Histories.{setting_of}
 use Rattle.sb_rule.specs.Verdicts.{policy_at}
 use Rattle.sb_rule.specs.declared.policies.Policy.{Policy}
 use Rattle.sb_statements.specs.declared.scripts.Script.{Script}
-use Rattle.sb_text.specs.Lines.{NumberedRawLine, numbered_raw_lines}
+use Rattle.sb_text.specs.Lines.{NumberedRawLine, numbered_raw_lines, without_cr}
 use Rattle.sb_transcript.specs.Reading.{line_of}
 use Rattle.sb_transcript.specs.declared.read_lines.EntryLine.{EntryLine}
 use Rattle.sb_transcript.specs.declared.read_lines.ResultLine.{ResultLine}
@@ -65,9 +65,9 @@ clause_at policies script before (line.Totals t) = if same_totals t (totals_due 
 abbrev pub failing : List Policy → Script → List Line → Line → Option Due
 failing policies script before l = if is_due script before l then clause_at policies script before l else Some (due_after script before)
 
--- the line of a transcript that bytes are with the LF that ends them, if one does and they are a line
+-- the line of a transcript that bytes are with the LF that ends them, if one does and they are a line without one CR at their end
 abbrev pub line_with_end : List ℕ → Bool → Option Line
-line_with_end bytes is_ended = if is_ended then line_of bytes else None
+line_with_end bytes is_ended = if is_ended then line_of (without_cr bytes) else None
 
 abbrev pub ended_line : NumberedRawLine → Option Line
 ended_line raw = line_with_end raw.bytes raw.is_ended

@@ -1,13 +1,12 @@
 -- What holds of each audit.
 use Rattle.std.specs.Prelude.{◌≡◌, ℕ, ⊤, true, List, [], ◌∷◌, ◌++◌, None, Some}
-use Rattle.std.specs.List.{flat_map}
 use Rattle.sb_call.specs.Arguments.{fits}
 use Rattle.sb_rule.specs.Verdicts.{verdict_of}
 use Rattle.sb_rule.specs.declared.actions.Action.TheVariants.{Allow, ReadOnly}
 use Rattle.sb_rule.specs.declared.policies.Policy.{Policy}
 use Rattle.sb_rule.specs.declared.verdicts.Verdict.TheVariants.{Rule}
 use Rattle.sb_statements.specs.declared.scripts.Script.{Script}
-use Rattle.sb_text.specs.LineLaws.{ended}
+use Rattle.sb_text.specs.Lines.{NumberedRawLine, numbered_raw_lines, without_cr}
 use Rattle.sb_transcript.specs.Fields.{written}
 use Rattle.sb_transcript.specs.declared.read_lines.EntryLine.{EntryLine}
 use Rattle.sb_transcript.specs.declared.read_lines.Line.{Line}
@@ -33,11 +32,18 @@ abbrev pub AreRight : List Policy → Script → List Line → List Line → Typ
 AreRight policies script before [] = ⊤
 AreRight policies script before (l ∷ lines) = (failing policies script before l ≡ None) × AreRight policies script (before ++ l ∷ []) lines
 
--- a text is these lines, each with an LF. No clause fails at any of them, the totals are among them, and they have these numbers of entries and
--- results
+-- bytes up to each LF are these lines, each with at most one CR before its LF
+abbrev pub AreLines : List NumberedRawLine → List Line → Type 0
+AreLines [] [] = ⊤
+AreLines [] (l ∷ lines) = ⊥
+AreLines (raw ∷ more) [] = ⊥
+AreLines (raw ∷ more) (l ∷ lines) = (raw.is_ended ≡ true) × (without_cr raw.bytes ≡ written l) × AreLines more lines
+
+-- a text is these lines, each with LF or with CR and LF. No clause fails at any of them, the totals are among them, and they have these numbers of
+-- entries and results
 pub record IsOfLines (policies : List Policy) (script : Script) (text : List ℕ) (entries results : ℕ) : Type 0 where
   pub lines : List Line
-  pub written_so : text ≡ flat_map (λ l. ended (written l)) lines
+  pub written_so : AreLines (numbered_raw_lines text) lines
   pub right : AreRight policies script [] lines
   pub totals : has_totals lines ≡ true
   pub entries_are : entry_count lines ≡ entries

@@ -1,16 +1,14 @@
 // What an audit's yes says. None of these functions does anything: each contract is a law.
 ghost use Rattle.sb_audit.specs.Laws.{EntriesAreRight, YesIsOfLines};
 
-use sb_text::raw_lines_join;
 use sb_transcript::read_lines_are_written;
 
-/// A text to which the answer is yes is lines, each with an LF, at none of which a clause fails, with the totals and as many entries and
+/// A text to which the answer is yes is lines, each with LF or with CR and LF, at none of which a clause fails, with the totals and as many entries and
 /// results as the answer shows.
 pub fn yes_is_of_lines()
     ensures { YesIsOfLines }
 {
     read_lines_are_written();
-    raw_lines_join();
 }
 
 /// An entry at which no clause fails: its target and channel are there. If its call was performed, the first rule that holds for it allows

@@ -1,6 +1,7 @@
 // The audit of a transcript.
 ghost use Rattle.std.specs.Prelude.{◌≡◌, ◌<◌, ◌+◌, ◌^◌, [], length, None, IfOk};
 ghost use Rattle.sb_book.specs.Histories.{setting_of};
+ghost use Rattle.sb_text.specs.Lines.{without_cr};
 ghost use Rattle.sb_audit.specs.Audited.{audited, line_with_end};
 ghost use Rattle.sb_audit.specs.Dues.{due_unread};
 ghost use Rattle.sb_audit.specs.Kept.{AreAtMost, FollowsLine, Keeps, due_kept, failing_line_kept};
@@ -16,14 +17,24 @@ use sb_text::RawLines;
 use sb_transcript::{Line, read_line};
 use std::alloc::Global;
 
-// The line of a transcript that bytes are with the LF that ends them, if one does and they are a line.
+// Bytes without one CR at their end.
+fn without_cr(bytes: &[u8]) -> &[u8]
+    ensures { result.now ≡ without_cr bytes.now }
+{
+    match bytes {
+        [line @ .., b'\r'] => line,
+        _ => bytes,
+    }
+}
+
+// The line of a transcript that bytes are with the LF that ends them, if one does and they are a line without one CR at their end.
 fn line_with_end(alloc: Global, bytes: &[u8], is_ended: bool) -> Result<Option<Line>, NoMemory>
     ensures { IfOk result (λ line. line ≡ line_with_end bytes.now is_ended) }
 {
     if !is_ended {
         return Ok(None);
     }
-    let line = read_line(alloc, bytes)?;
+    let line = read_line(alloc, without_cr(bytes))?;
     Ok(line)
 }
 

@@ -4,7 +4,7 @@ ghost use Rattle.sb_audit.specs.Laws.{EmptyTranscriptsAreRefuted};
 
 use sb_block::faultless_copies_fit;
 use sb_rule::first_rule_decides;
-use sb_transcript::{lines_are_read, lines_end_once, printed_lines_are_written};
+use sb_transcript::{lines_are_read, lines_end_once, lines_end_without_cr};
 
 /// An empty transcript fails the first clause at line 1.
 pub fn empty_transcripts_are_refuted()
@@ -16,7 +16,7 @@ pub fn reports_that_fit_are_audited()
     ensures { ReportsThatFitAreAudited }
 {
     lines_are_read();
-    printed_lines_are_written();
+    lines_end_without_cr();
     lines_end_once();
     faultless_copies_fit();
     first_rule_decides();

@@ -4,7 +4,7 @@ use Rattle.std.specs.List.{list_any}
 use Rattle.std.specs.Str.{is_utf8}
 use Rattle.sb_call.specs.CallWords.{is_word}
 use Rattle.sb_dup.specs.declared.faults.MoveKind.{MoveKind}
-use Rattle.sb_dup.specs.declared.faults.MoveKind.TheVariants.{UnknownWord, NoSuchTarget, BadNumber, TooMany}
+use Rattle.sb_dup.specs.declared.faults.MoveKind.TheVariants.{UnknownWord, NoSuchTarget, BadNumber, WideAccess, TooMany}
 use Rattle.sb_dup.specs.declared.moves.Move.{Move}
 use Rattle.sb_text.specs.Columns.{fails_at}
 use Rattle.sb_text.specs.Numbers.{number_of}
@@ -76,7 +76,7 @@ number_at place (Some n) = Ok n
 -- an access: a number below 2^32
 abbrev pub access_at : ℕ → Option ℕ → Result ℕ (TokenFault MoveKind)
 access_at place None = fails_at place BadNumber
-access_at place (Some n) = if nat_lt n (2 ^ 32) then Ok n else fails_at place BadNumber
+access_at place (Some n) = if nat_lt n (2 ^ 32) then Ok n else fails_at place WideAccess
 
 -- the leftmost word that is no number, or their values
 abbrev pub values : MoveWords → Result Move (TokenFault MoveKind)

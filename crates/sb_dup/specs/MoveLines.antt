@@ -4,26 +4,12 @@ use Rattle.std.specs.Fmt.{decimal}
 use Rattle.sb_dup.specs.declared.moves.Move.{Move}
 use Rattle.sb_dup.specs.declared.moves.MoveAnswer.{MoveAnswer}
 use Rattle.sb_dup.specs.declared.moves.MoveAnswer.TheVariants.{Given, NotHeld, MoreAccess, NoOpening, Denied}
-use Rattle.sb_rule.specs.declared.actions.Action.{Action}
-use Rattle.sb_rule.specs.declared.actions.Action.TheVariants.{Allow, Deny, Alarm, Fake, ReadOnly}
-use Rattle.sb_rule.specs.declared.verdicts.Verdict.{Verdict}
-use Rattle.sb_rule.specs.declared.verdicts.Verdict.TheVariants as verdict
 use Rattle.sb_statements.specs.Scripts.{target_name}
 use Rattle.sb_statements.specs.declared.scripts.Script.{Script}
 use Rattle.sb_base.specs.Numbers.{hexadecimal}
+use Rattle.sb_transcript.specs.Fields.{verdict_text}
 
--- what comes before the line of a rule that denies
-abbrev pub action_text : Action → List ℕ
-action_text Alarm = codes " alarm "
-action_text Fake = codes " fake "
-action_text Deny = codes " rule "
-action_text Allow = codes " rule "
-action_text ReadOnly = codes " rule "
-
-abbrev pub verdict_text : Verdict → List ℕ
-verdict_text verdict.NoRule = codes " norule"
-verdict_text (verdict.Rule line action) = action_text action ++ decimal line
-
+-- the answer to a move: the handle and its access, or why there is none
 abbrev pub answer_text : Script → MoveAnswer → List ℕ
 answer_text script (Given handle access) = codes "given " ++ decimal handle ++ codes " 0x" ++ hexadecimal access
 answer_text script NotHeld = codes "not-held"

@@ -20,9 +20,12 @@ pub enum MoveKind {
         /// The number of targets of the script.
         targets: u32,
     },
-    /// No number, or an access of 2^32 or more.
+    /// No number below 2^64.
     #[error("bad number")]
     BadNumber,
+    /// An access of 2^32 or more.
+    #[error("bad number")]
+    WideAccess,
     /// More than 4,096 moves.
     #[error("too many moves")]
     TooMany,
@@ -36,7 +39,7 @@ impl MoveKind {
         match self {
             MoveKind::UnknownWord(_) => 1,
             MoveKind::NoSuchTarget { .. } => 2,
-            MoveKind::BadNumber => 3,
+            MoveKind::BadNumber | MoveKind::WideAccess => 3,
             MoveKind::TooMany => 4,
         }
     }

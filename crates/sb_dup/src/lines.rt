@@ -9,7 +9,7 @@ ghost use Rattle.sb_text.specs.declared.refusals.WordFault.TheVariants.{Broken, 
 ghost use Rattle.sb_base.specs.declared.refusals.Refused.TheVariants.{Fault};
 
 use crate::faults::LineRefused;
-use crate::faults::MoveKind::{self, BadNumber, NoSuchTarget, TooMany, UnknownWord};
+use crate::faults::MoveKind::{self, BadNumber, NoSuchTarget, TooMany, UnknownWord, WideAccess};
 use crate::moves::{Move, Moves};
 use sb_text::{TokenFault, WordFault, Words, number_of};
 use std::str;
@@ -146,7 +146,8 @@ fn access_at(place: usize, number: Option<u64>) -> Result<u32, LineRefused>
 {
     match number {
         Some(number) if number < 1 << 32 => Ok(number as u32),
-        _ => Err(fail_at(place, BadNumber)),
+        Some(_) => Err(fail_at(place, WideAccess)),
+        None => Err(fail_at(place, BadNumber)),
     }
 }
 

@@ -1,34 +1,12 @@
 // The lines that tell how moves went.
 ghost use Rattle.std.specs.Prelude.{◌≡◌, ◌++◌, OnOk};
 ghost use Rattle.std.specs.List.{count_by};
-ghost use Rattle.sb_dup.specs.MoveLines.{action_text, answer_text, giver_text, is_given, lines_of_moves, move_line, move_lines, move_text, totals_line, verdict_text};
+ghost use Rattle.sb_dup.specs.MoveLines.{answer_text, giver_text, is_given, lines_of_moves, move_line, move_lines, move_text, totals_line};
 
 use crate::moves::{Answered, Move, MoveAnswer};
 use sb_base::{NoMemory, put_hexadecimal, put_named};
-use sb_rule::{Action, Verdict};
 use sb_statements::Script;
-
-fn action_text(action: Action) -> &'static [u8]
-    ensures { result.now ≡ action_text action }
-{
-    match action {
-        Action::Alarm => b" alarm ",
-        Action::Fake => b" fake ",
-        Action::Deny | Action::Allow | Action::ReadOnly => b" rule ",
-    }
-}
-
-fn put_verdict(line: &mut Vec<u8>, verdict: Verdict) -> Result<(), NoMemory>
-    ensures { OnOk result (line.new.items ≡ line.old.items ++ verdict_text verdict) }
-{
-    match verdict {
-        Verdict::NoRule => Ok(line.extend_from_slice(b" norule")?),
-        Verdict::Rule {
-            line: number,
-            action,
-        } => put_named(line, action_text(action), u64::from(number)),
-    }
-}
+use sb_transcript::put_verdict;
 
 fn put_answer(line: &mut Vec<u8>, script: &Script, answer: MoveAnswer) -> Result<(), NoMemory>
     ensures { OnOk result (line.new.items ≡ line.old.items ++ answer_text script.now answer) }

@@ -7,7 +7,7 @@ use Rattle.std.proofs.lemmas.Bool.Decides.{nat_tests}
 use Rattle.sb_base.specs.Numbers.{hexadecimal, is_word64}
 use Rattle.sb_call.specs.declared.arguments.Arg.{Arg}
 use Rattle.sb_call.specs.declared.arguments.Arg.TheVariants.{Num, Str}
-use Rattle.sb_transcript.specs.EntryLines.{argument_field}
+use Rattle.sb_transcript.specs.Fields.{argument_field}
 use Rattle.sb_transcript.specs.Ranges.{is_argument}
 use Rattle.sb_transcript.specs.Reading.{argument_of, with_argument, arguments_at}
 use Rattle.sb_transcript.proofs.NumbersBack.{number_back, hexadecimal_plain}

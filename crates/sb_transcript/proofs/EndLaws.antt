@@ -1,45 +1,46 @@
--- No line holds an LF except at its end.
-use Rattle.std.proofs.Common.{◌≡◌, ◌∙◌, ℕ, ◌+◌, ◌/◌, ◌%◌, Bool, true, false, not, cond, eqb, ltb, leb, ◌&&◌, ◌||◌, List, [], ◌∷◌, ◌++◌, length, drop, refl, ap, zero, suc, arith}
+-- No line holds a control character except the LF at its end.
+use Rattle.std.proofs.Common.{◌≡◌, ◌∙◌, ℕ, ◌+◌, ◌/◌, ◌%◌, Bool, true, false, not, cond, eqb, ltb, leb, ◌&&◌, ◌||◌, List, [], ◌∷◌, ◌++◌, length, map, drop, refl, ap, zero, suc, arith}
 use Rattle.std.proofs.lemmas.Bool.Decides.{nat_tests}
 use Rattle.std.proofs.lemmas.Bool.{and_parts, false≢true}
 use Rattle.std.proofs.lemmas.List.Folds.{list_all-append}
 use Rattle.std.specs.Fmt.{decimal, digits, digits_onto, digit_glyph}
 use Rattle.std.specs.List.{flat_map, list_all, onto_first}
-use Rattle.std.specs.Prelude.{codes, slice_get}
+use Rattle.std.specs.Prelude.{codes, nat_le, nat_lt, slice_get, slice_index, ◌-◌, ◌==◌}
 use Rattle.sb_base.specs.Quoting.{quoted, quoted_unit, hex_digit}
 use Rattle.sb_call.specs.CallWords.{call_word}
 use Rattle.sb_call.specs.ShortNames.{is_name_byte, is_short_name}
 use Rattle.sb_call.specs.declared.arguments.Arg.{Arg}
 use Rattle.sb_call.specs.declared.arguments.Arg.TheVariants.{Num, Str}
-use Rattle.sb_call.specs.declared.replies.Reply.{Reply}
-use Rattle.sb_statements.specs.declared.results.CallResult.{CallResult}
-use Rattle.sb_statements.specs.declared.results.CallResult.TheVariants as call
 use Rattle.sb_statements.specs.declared.results.StmtResult.{StmtResult}
-use Rattle.sb_statements.specs.declared.results.StmtResult.TheVariants.{Call, Stored, Found, Met, Unmet}
 use Rattle.sb_statements.specs.declared.scripts.Script.{Script}
 use Rattle.sb_statements.specs.declared.scripts.TargetScript.{TargetScript}
 use Rattle.sb_call.specs.declared.tags.CallTag.{CallTag}
 use Rattle.sb_call.specs.declared.tags.CallTag.TheVariants.{Ping, FileCreate, FileOpen, FileQuery, FileRename, PipeCreate, KeyCreate, KeyOpen, EventCreate, EventOpen, HandleClose}
-use Rattle.sb_block.specs.Copies.{mark_of}
 use Rattle.sb_block.specs.declared.faults.BlockFault.{BlockFault}
 use Rattle.sb_block.specs.declared.faults.BlockFault.TheVariants.{TooManyParams, BadEnd, CountChanged, EndChanged, BadParamType, BadPlace, UnknownTag, WrongShape, BadSize, BadName}
-use Rattle.sb_rule.specs.declared.actions.Action.{Action}
-use Rattle.sb_rule.specs.declared.actions.Action.TheVariants.{Allow, Deny, Alarm, Fake, ReadOnly}
-use Rattle.sb_rule.specs.declared.verdicts.Verdict.{Verdict}
-use Rattle.sb_rule.specs.declared.verdicts.Verdict.TheVariants as verdict
-use Rattle.sb_book.specs.Reports.{result_count}
-use Rattle.sb_book.specs.declared.decisions.Decision.{Decision}
-use Rattle.sb_book.specs.declared.decisions.Decision.TheVariants.{Refused, Denied, Faked, Performed}
 use Rattle.sb_book.specs.declared.entries.Entry.{Entry}
 use Rattle.sb_book.specs.declared.reports.Report.{Report}
 use Rattle.sb_base.specs.Numbers.{hexadecimal, eight_digits}
 use Rattle.sb_transcript.specs.CommaWords.{more_words, comma_words}
-use Rattle.sb_transcript.specs.EntryLines.{fault_text, argument_text, denial_word, grant_word, verdict_text, decision_text, reply_text, name_by, target_name, entry_line}
-use Rattle.sb_transcript.specs.ResultLines.{call_result_text, result_text, result_line}
-use Rattle.sb_transcript.specs.Totals.{counted, decisions_text, totals_line, count_of, is_performed, is_faked, is_denied, is_refused}
+use Rattle.sb_transcript.specs.EntryLines.{name_by, entry_line}
+use Rattle.sb_transcript.specs.Fields.{all_after, argument_field, counted, decision_fields, entry_fields, fault_fields, reply_fields, result_fields, result_line_fields, totals_fields, written}
+use Rattle.sb_transcript.specs.Printed.{shown_entry, shown_result_line}
+use Rattle.sb_transcript.specs.ResultLines.{result_line}
+use Rattle.sb_transcript.specs.Totals.{shown_totals, totals_line}
+use Rattle.sb_transcript.specs.ReadingLaws.{LinesEndWithoutCr}
+use Rattle.sb_transcript.specs.declared.read_lines.EntryLine.{EntryLine}
+use Rattle.sb_transcript.specs.declared.read_lines.ResultLine.{ResultLine}
+use Rattle.sb_transcript.specs.declared.read_lines.Line.TheVariants as line
+use Rattle.sb_transcript.specs.declared.read_lines.ShownDecision.{ShownDecision}
+use Rattle.sb_transcript.specs.declared.read_lines.ShownDecision.TheVariants as shown
+use Rattle.sb_transcript.specs.declared.read_lines.ShownReply.{ShownReply}
+use Rattle.sb_transcript.specs.declared.read_lines.ShownResult.{ShownResult}
+use Rattle.sb_transcript.specs.declared.read_lines.ShownResult.TheVariants as result
+use Rattle.sb_transcript.specs.declared.read_lines.TotalsLine.{TotalsLine}
 use Rattle.sb_transcript.specs.Transcripts.{entry_lines, thread_lines, target_lines, result_lines, transcript_lines}
 use Rattle.sb_transcript.specs.Laws.{cut_after_lf, LinesEndOnce, TranscriptsTellTheirLines}
 use Rattle.sb_base.specs.OneLine.{is_no_lf, is_one_line}
+use Rattle.sb_text.specs.Lines.{has_cr}
 use Rattle.sb_statements.specs.SoundScripts.{has_short_name, has_short_names}
 use Rattle.sb_outside.specs.Outside.{joined}
 
@@ -47,62 +48,171 @@ use Rattle.sb_outside.specs.Outside.{joined}
 abbrev pub has_no_lf : List ℕ → Bool
 has_no_lf bs = list_all is_no_lf bs
 
-pub joined_no_lf : (a b : List ℕ) → has_no_lf a ≡ true → has_no_lf b ≡ true → has_no_lf (a ++ b) ≡ true
-joined_no_lf a b ha hb = rw (list_all-append is_no_lf a b, ha, hb) refl
+-- a byte that is no control character
+abbrev is_shown : ℕ → Bool
+is_shown b = nat_le 32 b
 
-glyph_no_lf : (upper : Bool) (d : ℕ) → is_no_lf (digit_glyph upper d) ≡ true
-glyph_no_lf true d = grind (arith, nat_tests)
-glyph_no_lf false d = grind (arith, nat_tests)
+-- bytes without control characters
+abbrev pub are_shown : List ℕ → Bool
+are_shown bs = list_all is_shown bs
 
-by_test : (b : Bool) (x y : List ℕ) → has_no_lf x ≡ true → has_no_lf y ≡ true → has_no_lf (cond b x y) ≡ true
+pub joined_shown : (a b : List ℕ) → are_shown a ≡ true → are_shown b ≡ true → are_shown (a ++ b) ≡ true
+joined_shown a b ha hb = rw (list_all-append is_shown a b, ha, hb) refl
+
+glyph_shown : (upper : Bool) (d : ℕ) → is_shown (digit_glyph upper d) ≡ true
+glyph_shown true d = grind (arith, nat_tests)
+glyph_shown false d = grind (arith, nat_tests)
+
+by_test : (b : Bool) (x y : List ℕ) → are_shown x ≡ true → are_shown y ≡ true → are_shown (cond b x y) ≡ true
 by_test true x y hx hy = hx
 by_test false x y hx hy = hy
 
-onto_no_lf : (k base : ℕ) (upper : Bool) (n : ℕ) (acc : List ℕ) → has_no_lf acc ≡ true → has_no_lf (digits_onto k base upper n acc) ≡ true
-onto_no_lf zero base upper n acc h = h
-onto_no_lf (suc k) base upper n acc h =
-    let one : has_no_lf (digit_glyph upper (n % base) ∷ acc) ≡ true = joined_no_lf (digit_glyph upper (n % base) ∷ []) acc (rw (glyph_no_lf upper (n % base)) refl) h in
-    by_test (eqb (n / base) 0) (digit_glyph upper (n % base) ∷ acc) _ one (onto_no_lf k base upper (n / base) (digit_glyph upper (n % base) ∷ acc) one)
+onto_shown : (k base : ℕ) (upper : Bool) (n : ℕ) (acc : List ℕ) → are_shown acc ≡ true → are_shown (digits_onto k base upper n acc) ≡ true
+onto_shown zero base upper n acc h = h
+onto_shown (suc k) base upper n acc h =
+    let one : are_shown (digit_glyph upper (n % base) ∷ acc) ≡ true = joined_shown (digit_glyph upper (n % base) ∷ []) acc (rw (glyph_shown upper (n % base)) refl) h in
+    by_test (eqb (n / base) 0) (digit_glyph upper (n % base) ∷ acc) _ one (onto_shown k base upper (n / base) (digit_glyph upper (n % base) ∷ acc) one)
 
-pub digits_no_lf : (base : ℕ) (upper : Bool) (n : ℕ) → has_no_lf (digits base upper n) ≡ true
+pub digits_shown : (base : ℕ) (upper : Bool) (n : ℕ) → are_shown (digits base upper n) ≡ true
 unfolding digits
-digits_no_lf base upper n = onto_no_lf 64 base upper n [] refl
+digits_shown base upper n = onto_shown 64 base upper n [] refl
 
-drop_no_lf : (n : ℕ) (bs : List ℕ) → has_no_lf bs ≡ true → has_no_lf (drop n bs) ≡ true
-drop_no_lf zero bs h = h
-drop_no_lf (suc n) [] h = refl
-drop_no_lf (suc n) (b ∷ bs) h = drop_no_lf n bs (and_parts (is_no_lf b) (has_no_lf bs) h).1
+drop_shown : (n : ℕ) (bs : List ℕ) → are_shown bs ≡ true → are_shown (drop n bs) ≡ true
+drop_shown zero bs h = h
+drop_shown (suc n) [] h = refl
+drop_shown (suc n) (b ∷ bs) h = drop_shown n bs (and_parts (is_shown b) (are_shown bs) h).1
 
-pub eight_digits_no_lf : (n : ℕ) → has_no_lf (eight_digits n) ≡ true
-eight_digits_no_lf n =
-    joined_no_lf (drop (length (hexadecimal n)) (codes "00000000")) (hexadecimal n) (drop_no_lf (length (hexadecimal n)) (codes "00000000") refl) (digits_no_lf 16 false n)
+pub eight_digits_shown : (n : ℕ) → are_shown (eight_digits n) ≡ true
+eight_digits_shown n =
+    joined_shown (drop (length (hexadecimal n)) (codes "00000000")) (hexadecimal n) (drop_shown (length (hexadecimal n)) (codes "00000000") refl) (digits_shown 16 false n)
 
-more_words_no_lf : (ws : List ℕ) → has_no_lf (more_words ws) ≡ true
-more_words_no_lf [] = refl
-more_words_no_lf (w ∷ ws) = joined_no_lf (decimal w) (more_words ws) (digits_no_lf 10 false w) (more_words_no_lf ws)
+more_words_shown : (ws : List ℕ) → are_shown (more_words ws) ≡ true
+more_words_shown [] = refl
+more_words_shown (w ∷ ws) = joined_shown (decimal w) (more_words ws) (digits_shown 10 false w) (more_words_shown ws)
 
-pub comma_words_no_lf : (ws : List ℕ) → has_no_lf (comma_words ws) ≡ true
-comma_words_no_lf [] = refl
-comma_words_no_lf (w ∷ ws) = joined_no_lf (decimal w) (more_words ws) (digits_no_lf 10 false w) (more_words_no_lf ws)
+pub comma_words_shown : (ws : List ℕ) → are_shown (comma_words ws) ≡ true
+comma_words_shown [] = refl
+comma_words_shown (w ∷ ws) = joined_shown (decimal w) (more_words ws) (digits_shown 10 false w) (more_words_shown ws)
 
-abbrev written : ℕ → Bool → Bool → List ℕ
-written u b1 b2 = cond b1 (92 ∷ u ∷ []) (cond b2 (u ∷ []) (92 ∷ 117 ∷ hex_digit (u / 4096) ∷ hex_digit (u / 256 % 16) ∷ hex_digit (u / 16 % 16) ∷ hex_digit (u % 16) ∷ []))
+abbrev unit_text : ℕ → Bool → Bool → List ℕ
+unit_text u b1 b2 = cond b1 (92 ∷ u ∷ []) (cond b2 (u ∷ []) (92 ∷ 117 ∷ hex_digit (u / 4096) ∷ hex_digit (u / 256 % 16) ∷ hex_digit (u / 16 % 16) ∷ hex_digit (u % 16) ∷ []))
 
-digit_no_lf : (d : ℕ) → is_no_lf (hex_digit d) ≡ true
-digit_no_lf d = grind (arith, nat_tests)
+digit_shown : (d : ℕ) → is_shown (hex_digit d) ≡ true
+digit_shown d = grind (arith, nat_tests)
 
-written_no_lf : (u : ℕ) (b1 b2 : Bool) → (eqb u 34 || eqb u 92) ≡ b1 → (leb 32 u && leb u 126) ≡ b2 → has_no_lf (written u b1 b2) ≡ true
-written_no_lf u true b2 e1 e2 = grind (arith, nat_tests)
-written_no_lf u false true e1 e2 = grind (arith, nat_tests)
-written_no_lf u false false e1 e2 = rw (digit_no_lf (u / 4096), digit_no_lf (u / 256 % 16), digit_no_lf (u / 16 % 16), digit_no_lf (u % 16)) refl
+written_shown : (u : ℕ) (b1 b2 : Bool) → (eqb u 34 || eqb u 92) ≡ b1 → (leb 32 u && leb u 126) ≡ b2 → are_shown (unit_text u b1 b2) ≡ true
+written_shown u true b2 e1 e2 = grind (arith, nat_tests)
+written_shown u false true e1 e2 = grind (arith, nat_tests)
+written_shown u false false e1 e2 = rw (digit_shown (u / 4096), digit_shown (u / 256 % 16), digit_shown (u / 16 % 16), digit_shown (u % 16)) refl
 
-units_no_lf : (us : List ℕ) → has_no_lf (flat_map quoted_unit us) ≡ true
-units_no_lf [] = refl
-units_no_lf (u ∷ us) =
-    joined_no_lf (quoted_unit u) (flat_map quoted_unit us) (written_no_lf u (eqb u 34 || eqb u 92) (leb 32 u && leb u 126) refl refl) (units_no_lf us)
+units_shown : (us : List ℕ) → are_shown (flat_map quoted_unit us) ≡ true
+units_shown [] = refl
+units_shown (u ∷ us) =
+    joined_shown (quoted_unit u) (flat_map quoted_unit us) (written_shown u (eqb u 34 || eqb u 92) (leb 32 u && leb u 126) refl refl) (units_shown us)
 
-pub quoted_no_lf : (us : List ℕ) → has_no_lf (quoted us) ≡ true
-quoted_no_lf us = joined_no_lf (flat_map quoted_unit us) (34 ∷ []) (units_no_lf us) refl
+pub quoted_shown : (us : List ℕ) → are_shown (quoted us) ≡ true
+quoted_shown us = joined_shown (flat_map quoted_unit us) (34 ∷ []) (units_shown us) refl
+
+decimal_shown : (n : ℕ) → are_shown (decimal n) ≡ true
+decimal_shown n = digits_shown 10 false n
+
+hexadecimal_shown : (n : ℕ) → are_shown (hexadecimal n) ≡ true
+hexadecimal_shown n = digits_shown 16 false n
+
+-- names
+
+name_byte_shown : (b : ℕ) → is_name_byte b ≡ true → is_shown b ≡ true
+name_byte_shown b h = grind (arith, nat_tests)
+
+name_bytes_shown : (bs : List ℕ) → list_all is_name_byte bs ≡ true → are_shown bs ≡ true
+name_bytes_shown [] h = refl
+name_bytes_shown (b ∷ bs) h =
+    let p = and_parts (is_name_byte b) (list_all is_name_byte bs) h in
+    rw (name_byte_shown b p.0, name_bytes_shown bs p.1) refl
+
+short_name_shown : (name : List ℕ) → is_short_name name ≡ true → are_shown name ≡ true
+short_name_shown name h = name_bytes_shown name (and_parts (ltb 0 (length name) && leb (length name) 32) (list_all is_name_byte name) h).1
+
+name_by_shown : (targets : List TargetScript) (n : ℕ) → list_all has_short_name targets ≡ true → are_shown (name_by (slice_get targets n)) ≡ true
+name_by_shown [] n h = refl
+name_by_shown (t ∷ ts) zero h = short_name_shown t.name (and_parts (has_short_name t) (list_all has_short_name ts) h).0
+name_by_shown (t ∷ ts) (suc n) h = name_by_shown ts n (and_parts (has_short_name t) (list_all has_short_name ts) h).1
+
+call_word_shown : (tag : CallTag) → are_shown (call_word tag) ≡ true
+call_word_shown Ping = refl
+call_word_shown FileCreate = refl
+call_word_shown FileOpen = refl
+call_word_shown FileQuery = refl
+call_word_shown FileRename = refl
+call_word_shown PipeCreate = refl
+call_word_shown KeyCreate = refl
+call_word_shown KeyOpen = refl
+call_word_shown EventCreate = refl
+call_word_shown EventOpen = refl
+call_word_shown HandleClose = refl
+
+-- ---- fields
+
+-- fields that show nothing else
+abbrev fields_are_shown : List (List ℕ) → Bool
+fields_are_shown fields = list_all are_shown fields
+
+fields_shown : (fields : List (List ℕ)) → fields_are_shown fields ≡ true → are_shown (all_after 32 fields) ≡ true
+fields_shown [] h = refl
+fields_shown (field ∷ fields) h =
+    let p = and_parts (are_shown field) (fields_are_shown fields) h in
+    joined_shown field (all_after 32 fields) p.0 (fields_shown fields p.1)
+
+fault_shown : (fault : BlockFault) → fields_are_shown (fault_fields fault) ≡ true
+fault_shown (TooManyParams n) = rw (decimal_shown n) refl
+fault_shown (BadEnd e) = rw (decimal_shown e) refl
+fault_shown (CountChanged a b) = rw (decimal_shown a, decimal_shown b) refl
+fault_shown (EndChanged a b) = rw (decimal_shown a, decimal_shown b) refl
+fault_shown (BadParamType i) = rw (decimal_shown i) refl
+fault_shown (BadPlace i) = rw (decimal_shown i) refl
+fault_shown (UnknownTag t) = rw (decimal_shown t) refl
+fault_shown WrongShape = refl
+fault_shown (BadSize i) = rw (decimal_shown i) refl
+fault_shown (BadName i) = rw (decimal_shown i) refl
+
+argument_shown : (arg : Arg) → are_shown (argument_field arg) ≡ true
+argument_shown (Num n) = hexadecimal_shown n
+argument_shown (Str units) = quoted_shown units
+
+arguments_shown : (args : List Arg) → fields_are_shown (map argument_field args) ≡ true
+arguments_shown [] = refl
+arguments_shown (arg ∷ args) = rw (argument_shown arg, arguments_shown args) refl
+
+performed_shown : (tag : CallTag) (args : List Arg) (word : List ℕ) (n : ℕ) → are_shown word ≡ true
+    → fields_are_shown (codes "performed" ∷ call_word tag ∷ (map argument_field args ++ counted word n)) ≡ true
+performed_shown tag args word n h =
+    rw (call_word_shown tag, list_all-append are_shown (map argument_field args) (counted word n), arguments_shown args, h, decimal_shown n) refl
+
+decision_shown : (d : ShownDecision) → fields_are_shown (decision_fields d) ≡ true
+decision_shown (shown.Refused fault) = fault_shown fault
+decision_shown (shown.NoRule tag) = rw (call_word_shown tag) refl
+decision_shown (shown.Denied tag n) = rw (call_word_shown tag, decimal_shown n) refl
+decision_shown (shown.Alarmed tag n) = rw (call_word_shown tag, decimal_shown n) refl
+decision_shown (shown.Faked tag n) = rw (call_word_shown tag, decimal_shown n) refl
+decision_shown (shown.Allowed tag args n) = performed_shown tag args (codes "rule") n refl
+decision_shown (shown.ReadOnly tag args n) = performed_shown tag args (codes "readonly") n refl
+
+ext_shown : (words : List ℕ) → are_shown (91 ∷ (comma_words words ++ 93 ∷ [])) ≡ true
+ext_shown words = joined_shown (comma_words words) (93 ∷ []) (comma_words_shown words) refl
+
+reply_shown : (r : ShownReply) → fields_are_shown (reply_fields r) ≡ true
+reply_shown r = rw (decimal_shown r.outcome, eight_digits_shown r.status, decimal_shown r.handle, ext_shown r.ext) refl
+
+result_shown : (r : ShownResult) → fields_are_shown (result_fields r) ≡ true
+result_shown (result.Reply channel reply) = rw (decimal_shown channel, reply_shown reply) refl
+result_shown result.NoChannel = refl
+result_shown (result.SendLost channel found) = rw (decimal_shown channel, decimal_shown found) refl
+result_shown (result.Foreign channel mark) = rw (decimal_shown channel, decimal_shown mark) refl
+result_shown (result.TimedOut channel) = rw (decimal_shown channel) refl
+result_shown result.Stored = refl
+result_shown (result.Found value) = rw (decimal_shown value) refl
+result_shown (result.Met loads) = rw (decimal_shown loads) refl
+result_shown (result.Unmet loads) = rw (decimal_shown loads) refl
 
 -- bytes without an LF, and then one
 pub ended : (bs : List ℕ) → has_no_lf bs ≡ true → is_one_line (bs ++ codes "\n") ≡ true
@@ -112,142 +222,71 @@ ended (b ∷ c ∷ bs) h =
     let p = and_parts (is_no_lf b) (has_no_lf (c ∷ bs)) h in
     rw (p.0, ended (c ∷ bs) p.1) refl
 
-decimal_no_lf : (n : ℕ) → has_no_lf (decimal n) ≡ true
-decimal_no_lf n = digits_no_lf 10 false n
+-- so are bytes without control characters
+shown_no_lf : (bs : List ℕ) → are_shown bs ≡ true → has_no_lf bs ≡ true
+shown_no_lf [] h = refl
+shown_no_lf (b ∷ bs) h =
+    let p = and_parts (is_shown b) (are_shown bs) h in
+    let first : is_no_lf b ≡ true = other_byte b p.0 in
+    rw (first, shown_no_lf bs p.1) refl
+  where
+    other_byte : (b : ℕ) → is_shown b ≡ true → is_no_lf b ≡ true
+    other_byte b h = grind (arith, nat_tests)
 
-hexadecimal_no_lf : (n : ℕ) → has_no_lf (hexadecimal n) ≡ true
-hexadecimal_no_lf n = digits_no_lf 16 false n
+shown_ends : (bs : List ℕ) → are_shown bs ≡ true → is_one_line (bs ++ codes "\n") ≡ true
+shown_ends bs h = ended bs (shown_no_lf bs h)
 
--- names
+-- and none of them is a CR
+shown_at : (bs : List ℕ) (n : ℕ) → are_shown bs ≡ true → (slice_index bs n == 13) ≡ false
+shown_at [] n h = refl
+shown_at (b ∷ bs) zero h = other_byte b (and_parts (is_shown b) (are_shown bs) h).0
+  where
+    other_byte : (b : ℕ) → is_shown b ≡ true → (b == 13) ≡ false
+    other_byte b h = grind (arith, nat_tests)
+shown_at (b ∷ bs) (suc n) h = shown_at bs n (and_parts (is_shown b) (are_shown bs) h).1
 
-name_byte_no_lf : (b : ℕ) → is_name_byte b ≡ true → is_no_lf b ≡ true
-name_byte_no_lf b h = grind (arith, nat_tests)
+no_and : (t : Bool) → (t && false) ≡ false
+no_and true = refl
+no_and false = refl
 
-name_bytes_no_lf : (bs : List ℕ) → list_all is_name_byte bs ≡ true → has_no_lf bs ≡ true
-name_bytes_no_lf [] h = refl
-name_bytes_no_lf (b ∷ bs) h =
-    let p = and_parts (is_name_byte b) (list_all is_name_byte bs) h in
-    rw (name_byte_no_lf b p.0, name_bytes_no_lf bs p.1) refl
+shown_without_cr : (bs : List ℕ) → are_shown bs ≡ true → has_cr bs ≡ false
+shown_without_cr bs h = ap (λ t. nat_lt 0 (length bs) && t) (shown_at bs (length bs - 1) h) ∙ no_and (nat_lt 0 (length bs))
 
-short_name_no_lf : (name : List ℕ) → is_short_name name ≡ true → has_no_lf name ≡ true
-short_name_no_lf name h = name_bytes_no_lf name (and_parts (ltb 0 (length name) && leb (length name) 32) (list_all is_name_byte name) h).1
+-- ---- lines
 
-name_by_no_lf : (targets : List TargetScript) (n : ℕ) → list_all has_short_name targets ≡ true → has_no_lf (name_by (slice_get targets n)) ≡ true
-name_by_no_lf [] n h = refl
-name_by_no_lf (t ∷ ts) zero h = short_name_no_lf t.name (and_parts (has_short_name t) (list_all has_short_name ts) h).0
-name_by_no_lf (t ∷ ts) (suc n) h = name_by_no_lf ts n (and_parts (has_short_name t) (list_all has_short_name ts) h).1
+entry_shown : (e : EntryLine) → are_shown e.target ≡ true → are_shown (written (line.Entry e)) ≡ true
+entry_shown e name =
+    let rest : fields_are_shown (decision_fields e.decision ++ codes "reply" ∷ reply_fields e.reply) ≡ true =
+    rw (list_all-append are_shown (decision_fields e.decision) (codes "reply" ∷ reply_fields e.reply), decision_shown e.decision, reply_shown e.reply) refl in
+    let all : fields_are_shown (entry_fields e) ≡ true = rw (decimal_shown e.number, name, decimal_shown e.channel, decimal_shown e.mark, rest) refl in
+    joined_shown (codes "entry") (all_after 32 (entry_fields e)) refl (fields_shown (entry_fields e) all)
 
-call_word_no_lf : (tag : CallTag) → has_no_lf (call_word tag) ≡ true
-call_word_no_lf Ping = refl
-call_word_no_lf FileCreate = refl
-call_word_no_lf FileOpen = refl
-call_word_no_lf FileQuery = refl
-call_word_no_lf FileRename = refl
-call_word_no_lf PipeCreate = refl
-call_word_no_lf KeyCreate = refl
-call_word_no_lf KeyOpen = refl
-call_word_no_lf EventCreate = refl
-call_word_no_lf EventOpen = refl
-call_word_no_lf HandleClose = refl
+result_line_shown : (r : ResultLine) → are_shown r.target ≡ true → are_shown (written (line.Result r)) ≡ true
+result_line_shown r name =
+    let all : fields_are_shown (result_line_fields r) ≡ true = rw (name, decimal_shown r.thread, decimal_shown r.place, result_shown r.result) refl in
+    joined_shown (codes "result") (all_after 32 (result_line_fields r)) refl (fields_shown (result_line_fields r) all)
 
-fault_no_lf : (fault : BlockFault) → has_no_lf (fault_text fault) ≡ true
-fault_no_lf (TooManyParams n) = decimal_no_lf n
-fault_no_lf (BadEnd e) = decimal_no_lf e
-fault_no_lf (CountChanged a b) = simp (list_all-append, decimal_no_lf) refl
-fault_no_lf (EndChanged a b) = simp (list_all-append, decimal_no_lf) refl
-fault_no_lf (BadParamType i) = decimal_no_lf i
-fault_no_lf (BadPlace i) = decimal_no_lf i
-fault_no_lf (UnknownTag t) = decimal_no_lf t
-fault_no_lf WrongShape = refl
-fault_no_lf (BadSize i) = decimal_no_lf i
-fault_no_lf (BadName i) = decimal_no_lf i
+totals_shown : (t : TotalsLine) → are_shown (written (line.Totals t)) ≡ true
+totals_shown t =
+    let all : fields_are_shown (totals_fields t) ≡ true =
+    rw (decimal_shown t.entries, decimal_shown t.performed, decimal_shown t.faked, decimal_shown t.denied, decimal_shown t.refused, decimal_shown t.results) refl in
+    joined_shown (codes "total") (all_after 32 (totals_fields t)) refl (fields_shown (totals_fields t) all)
 
-argument_no_lf : (arg : Arg) → has_no_lf (argument_text arg) ≡ true
-argument_no_lf (Num n) = hexadecimal_no_lf n
-argument_no_lf (Str units) = quoted_no_lf units
-
-arguments_no_lf : (args : List Arg) → has_no_lf (flat_map argument_text args) ≡ true
-arguments_no_lf [] = refl
-arguments_no_lf (arg ∷ args) = joined_no_lf (argument_text arg) (flat_map argument_text args) (argument_no_lf arg) (arguments_no_lf args)
-
-denial_no_lf : (action : Action) → has_no_lf (denial_word action) ≡ true
-denial_no_lf Allow = refl
-denial_no_lf Deny = refl
-denial_no_lf Alarm = refl
-denial_no_lf Fake = refl
-denial_no_lf ReadOnly = refl
-
-grant_no_lf : (action : Action) → has_no_lf (grant_word action) ≡ true
-grant_no_lf Allow = refl
-grant_no_lf Deny = refl
-grant_no_lf Alarm = refl
-grant_no_lf Fake = refl
-grant_no_lf ReadOnly = refl
-
-verdict_no_lf : (v : Verdict) → has_no_lf (verdict_text v) ≡ true
-verdict_no_lf verdict.NoRule = refl
-verdict_no_lf (verdict.Rule line action) = joined_no_lf (denial_word action) (decimal line) (denial_no_lf action) (decimal_no_lf line)
-
-decision_no_lf : (d : Decision) → has_no_lf (decision_text d) ≡ true
-decision_no_lf (Refused fault) = fault_no_lf fault
-decision_no_lf (Denied tag verdict) = simp (list_all-append, call_word_no_lf, verdict_no_lf) refl
-decision_no_lf (Faked tag line) = simp (list_all-append, call_word_no_lf, decimal_no_lf) refl
-decision_no_lf (Performed tag line action args) = simp (list_all-append, call_word_no_lf, arguments_no_lf, grant_no_lf, decimal_no_lf) refl
-
-reply_no_lf : (r : Reply) → has_no_lf (reply_text r) ≡ true
-reply_no_lf r =
-    let zeros = drop_no_lf (length (hexadecimal r.status)) (codes "00000000") refl in
-    simp (list_all-append, decimal_no_lf, hexadecimal_no_lf, zeros, comma_words_no_lf) refl
-
-call_result_no_lf : (r : CallResult) → has_no_lf (call_result_text r) ≡ true
-call_result_no_lf (call.Reply channel reply) =
-    joined_no_lf (codes "reply " ++ decimal channel ++ codes " ") (reply_text reply) (simp (list_all-append, decimal_no_lf) refl) (reply_no_lf reply)
-call_result_no_lf call.NoChannel = refl
-call_result_no_lf (call.SendLost channel found) = simp (list_all-append, decimal_no_lf) refl
-call_result_no_lf (call.Foreign channel mark) = simp (list_all-append, decimal_no_lf) refl
-call_result_no_lf (call.TimedOut channel) = decimal_no_lf channel
-
-result_no_lf : (r : StmtResult) → has_no_lf (result_text r) ≡ true
-result_no_lf (Call result) = call_result_no_lf result
-result_no_lf Stored = refl
-result_no_lf (Found value) = decimal_no_lf value
-result_no_lf (Met loads) = decimal_no_lf loads
-result_no_lf (Unmet loads) = decimal_no_lf loads
-
--- lines
+pub lines_end_without_cr : LinesEndWithoutCr
+lines_end_without_cr (line.Entry e) h = shown_without_cr (written (line.Entry e)) (entry_shown e (short_name_shown e.target h.target))
+lines_end_without_cr (line.Result r) h = shown_without_cr (written (line.Result r)) (result_line_shown r (short_name_shown r.target h.target))
+lines_end_without_cr (line.Totals t) h = shown_without_cr (written (line.Totals t)) (totals_shown t)
 
 entry_ends : (script : Script) → has_short_names script ≡ true → (n : ℕ) (e : Entry) → is_one_line (entry_line script n e) ≡ true
-entry_ends script short n e =
-    let name = name_by_no_lf script.targets e.target short in
-    let front = codes "entry " ++ decimal n ++ codes " " ++ target_name script e.target ++ codes " " ++ decimal e.channel ++ codes " mark " ++ decimal (mark_of e.taken) ++ codes " " ++ decision_text e.decision ++ codes " reply " in
-    let fronts : has_no_lf front ≡ true = simp (list_all-append, decimal_no_lf, name, decision_no_lf) refl in
-    ended (front ++ reply_text e.reply) (joined_no_lf front (reply_text e.reply) fronts (reply_no_lf e.reply))
+entry_ends script short n e = shown_ends (written (line.Entry (shown_entry script n e))) (entry_shown (shown_entry script n e) (name_by_shown script.targets e.target short))
 
 result_ends : (script : Script) → has_short_names script ≡ true → (target thread place : ℕ) (r : StmtResult) → is_one_line (result_line script target thread place r) ≡ true
 result_ends script short target thread place r =
-    let name = name_by_no_lf script.targets target short in
-    ended
-    (codes "result " ++ target_name script target ++ codes " " ++ decimal thread ++ codes " " ++ decimal place ++ codes " " ++ result_text r)
-    (simp (list_all-append, name, decimal_no_lf, result_no_lf) refl)
-
-counted_no_lf : (name : List ℕ) (n : ℕ) → has_no_lf name ≡ true → has_no_lf (counted name n) ≡ true
-unfolding counted
-counted_no_lf name n h = joined_no_lf name (decimal n) h (decimal_no_lf n)
-
-six_no_lf : (e p f d r s : List ℕ) → has_no_lf e ≡ true → has_no_lf p ≡ true → has_no_lf f ≡ true → has_no_lf d ≡ true → has_no_lf r ≡ true → has_no_lf s ≡ true
-    → has_no_lf (e ++ (p ++ f ++ d ++ r) ++ s) ≡ true
-six_no_lf e p f d r s he hp hf hd hr hs = simp (list_all-append, he, hp, hf, hd, hr, hs) refl
+    shown_ends (written (line.Result (shown_result_line script target thread place r)))
+    (result_line_shown (shown_result_line script target thread place r) (name_by_shown script.targets target short))
 
 totals_end_once : (report : Report) → is_one_line (totals_line report) ≡ true
-totals_end_once report =
-    let entries = report.entries in
-    ended (counted (codes "total entries ") (length entries) ++ decisions_text entries ++ counted (codes " results ") (result_count report.results))
-    (six_no_lf (counted (codes "total entries ") (length entries)) (counted (codes " performed ") (count_of is_performed entries))
-    (counted (codes " faked ") (count_of is_faked entries)) (counted (codes " denied ") (count_of is_denied entries))
-    (counted (codes " refused ") (count_of is_refused entries)) (counted (codes " results ") (result_count report.results))
-    (counted_no_lf (codes "total entries ") (length entries) refl) (counted_no_lf (codes " performed ") (count_of is_performed entries) refl)
-    (counted_no_lf (codes " faked ") (count_of is_faked entries) refl) (counted_no_lf (codes " denied ") (count_of is_denied entries) refl)
-    (counted_no_lf (codes " refused ") (count_of is_refused entries) refl) (counted_no_lf (codes " results ") (result_count report.results) refl))
+totals_end_once report = shown_ends (written (line.Totals (shown_totals report))) (totals_shown (shown_totals report))
 
 -- lists of lines
 

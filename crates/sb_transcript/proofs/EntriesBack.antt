@@ -7,8 +7,7 @@ use Rattle.sb_block.specs.declared.faults.BlockFault.TheVariants.{TooManyParams,
 use Rattle.sb_call.specs.CallWords.{call_word}
 use Rattle.sb_call.specs.declared.arguments.Arg.{Arg}
 use Rattle.sb_call.specs.declared.tags.CallTag.{CallTag}
-use Rattle.sb_transcript.specs.EntryLines.{argument_field}
-use Rattle.sb_transcript.specs.Fields.{counted, fault_fields, decision_fields, reply_fields, entry_fields}
+use Rattle.sb_transcript.specs.Fields.{argument_field, counted, fault_fields, decision_fields, reply_fields, entry_fields}
 use Rattle.sb_transcript.specs.Ranges.{FaultInRange, DecisionInRange, EntryInRange, is_argument}
 use Rattle.sb_transcript.specs.Reading.{below_2_32, decimal_at, small_at, name_at, count_at, parameter_fault, argument_of, fault_with, fault_at, call_at, granted, granted_at, denied, decision_with, decision_at, reply_at, entry_line_at}
 use Rattle.sb_transcript.specs.Steps.{◌>>=◌, Read, field_at}

@@ -5,6 +5,7 @@ use Rattle.std.specs.Fmt.{decimal}
 use Rattle.std.specs.List.{count_by, flat_map, list_all, sum_by}
 use Rattle.std.proofs.lemmas.Bool.{and_parts}
 use Rattle.std.proofs.lemmas.Bool.Decides.{nat_tests}
+use Rattle.std.proofs.lemmas.Grind.{flat_map-append}
 use Rattle.std.proofs.lemmas.List.Concat.{length-flat_map}
 use Rattle.std.proofs.lemmas.List.Sums.{count_by-le-length, sum_by-append, sum_by-cons}
 use Rattle.sb_base.specs.Numbers.{eight_digits, hexadecimal, is_word64}
@@ -30,7 +31,6 @@ use Rattle.sb_call.specs.ShortNames.{is_name_byte, is_short_name}
 use Rattle.sb_call.specs.Tags.{shape_of}
 use Rattle.sb_call.specs.declared.arguments.Arg.{Arg}
 use Rattle.sb_call.specs.declared.arguments.Arg.TheVariants.{Num, Str}
-use Rattle.sb_call.specs.declared.replies.Reply.{Reply}
 use Rattle.sb_call.specs.declared.tags.CallTag.{CallTag}
 use Rattle.sb_call.specs.declared.tags.CallTag.TheVariants.{Ping, FileCreate, FileOpen, FileQuery, FileRename, PipeCreate, KeyCreate, KeyOpen, EventCreate, EventOpen, HandleClose}
 use Rattle.sb_call.specs.declared.tags.ParamKind.{ParamKind}
@@ -46,22 +46,24 @@ use Rattle.sb_rule.specs.declared.verdicts.Verdict.{Verdict}
 use Rattle.sb_rule.specs.declared.verdicts.Verdict.TheVariants as verdict
 use Rattle.sb_statements.specs.SoundScripts.{has_short_name}
 use Rattle.sb_statements.specs.Soundness.{are_targets, is_patience, is_sound, is_start, is_target, is_thread, names_differ}
-use Rattle.sb_statements.specs.declared.results.CallResult.{CallResult}
-use Rattle.sb_statements.specs.declared.results.CallResult.TheVariants as call
 use Rattle.sb_statements.specs.declared.results.StmtResult.{StmtResult}
-use Rattle.sb_statements.specs.declared.results.StmtResult.TheVariants as result
 use Rattle.sb_statements.specs.declared.scripts.Script.{Script}
 use Rattle.sb_statements.specs.declared.scripts.TargetScript.{TargetScript}
 use Rattle.sb_transcript.specs.CommaWords.{comma_words, more_words}
-use Rattle.sb_transcript.specs.EntryLines.{argument_text, decision_text, entry_line, fault_text, name_by, reply_text, target_name}
+use Rattle.sb_transcript.specs.EntryLines.{entry_line, name_by, target_name}
+use Rattle.sb_transcript.specs.Fields.{after_separator, all_after, argument_field, argument_text, counted, decision_fields, entry_fields, fault_fields, place_fields, reply_fields, result_fields, result_line_fields, totals_fields}
 use Rattle.sb_transcript.specs.Lengths.{EntryLinesAreShort, IsWithinLimits, ResultLinesAreShort, TotalsAreShort, TranscriptsAreShort}
 use Rattle.sb_transcript.specs.Printable.{ArePrintableResults, Each, IsPrintableEntry, IsPrintableResult}
-use Rattle.sb_transcript.specs.Printed.{shown_call, shown_decision, shown_reply, shown_result}
+use Rattle.sb_transcript.specs.Printed.{shown_decision, shown_entry, shown_result_line}
 use Rattle.sb_transcript.specs.Ranges.{DecisionInRange, FaultInRange, ReplyInRange, ResultInRange, is_argument}
-use Rattle.sb_transcript.specs.ResultLines.{call_result_text, result_line, result_text}
-use Rattle.sb_transcript.specs.Totals.{count_of, counted, is_denied, is_faked, is_performed, is_refused, totals_line}
+use Rattle.sb_transcript.specs.ResultLines.{result_line}
+use Rattle.sb_transcript.specs.Totals.{is_denied, is_faked, is_performed, is_refused, shown_totals, totals_line}
 use Rattle.sb_transcript.specs.Transcripts.{entry_lines, result_lines, target_lines, thread_lines, transcript_lines}
+use Rattle.sb_transcript.specs.declared.read_lines.ShownReply.{ShownReply}
+use Rattle.sb_transcript.specs.declared.read_lines.ShownResult.{ShownResult}
+use Rattle.sb_transcript.specs.declared.read_lines.ShownResult.TheVariants as shown
 use Rattle.sb_transcript.proofs.NumbersBack.{below_64, decimal_short, hexadecimal_short}
+use Rattle.sb_transcript.proofs.Putting.{arguments_same}
 use Rattle.sb_transcript.proofs.PlaceLaws.{result_count-cons, thread_count-cons}
 
 -- ---- parts one after another
@@ -98,6 +100,36 @@ drop_most zero xs = omega arith
 drop_most (suc n) [] = lit≤ tt
 drop_most (suc n) (x ∷ xs) = let rest = drop_most n xs in omega (arith, rest)
 
+-- ---- fields
+
+-- fields, each after a blank, that are at most this many bytes
+record Fit (fields : List (List ℕ)) (most : ℕ) : Type 0 where
+  few : length (all_after 32 fields) ≤ most
+
+no_fields : Fit [] 0
+no_fields = record { few = lit≤ tt }
+
+infixr 10 ◌⊗◌
+-- a field with others after it
+◌⊗◌ : {field : List ℕ} {fields : List (List ℕ)} {m k : ℕ} → Within field m → Fit fields k → Fit (field ∷ fields) (1 + m + k)
+◌⊗◌ {field} {fields} {m} {k} x y =
+    let both = length-append (32 ∷ field) (all_after 32 fields) in
+    let first = x.few in
+    let rest = y.few in
+    record { few = omega (arith, both, first, rest) }
+
+-- fields with others after them
+fit_both : (fields more : List (List ℕ)) (m k : ℕ) → Fit fields m → Fit more k → Fit (fields ++ more) (m + k)
+fit_both fields more m k x y =
+    let same = ap (λ (l : List ℕ). length l) (flat_map-append (after_separator 32) fields more) in
+    let both = length-append (all_after 32 fields) (all_after 32 more) in
+    let first = x.few in
+    let rest = y.few in
+    record { few = omega (arith, same, both, first, rest) }
+
+fit_most : (fields : List (List ℕ)) (m k : ℕ) → Fit fields m → m ≤ k → Fit fields k
+fit_most fields m k x h = record { few = at_most _ _ _ x.few h }
+
 -- ---- replies
 
 status_short : (n : ℕ) → n < 2 ^ 64 → length (eight_digits n) ≤ 24
@@ -126,37 +158,36 @@ words_short (w ∷ ws) h =
     let both = length-append (decimal w) (more_words ws) in
     omega (arith, first, rest, both)
 
-reply_short : (r : Reply) → ReplyInRange (shown_reply r) → length (reply_text r) ≤ 220
-reply_short r h =
+reply_fit : (r : ShownReply) → ReplyInRange r → Fit (reply_fields r) 220
+reply_fit r h =
     let words = words_short r.ext h.words in
     let few = h.few in
     let seven : length (comma_words r.ext) ≤ 147 = omega (arith, words, few) in
-    let b = number r.outcome h.outcome ⊕ part (codes " ") 1 (lit≤ tt) ⊕ part (eight_digits r.status) 24 (status_short r.status h.status) ⊕ part (codes " ") 1 (lit≤ tt)
-    ⊕ number r.handle h.handle ⊕ part (codes " [") 2 (lit≤ tt) ⊕ part (comma_words r.ext) 147 seven ⊕ part (codes "]") 1 (lit≤ tt) in
-    at_most _ _ _ b.few (lit≤ tt)
+    let ext = part (codes "[") 1 (lit≤ tt) ⊕ (part (comma_words r.ext) 147 seven ⊕ part (codes "]") 1 (lit≤ tt)) in
+    fit_most _ _ _ (number r.outcome h.outcome ⊗ (part (eight_digits r.status) 24 (status_short r.status h.status) ⊗ (number r.handle h.handle ⊗ (ext ⊗ no_fields)))) (lit≤ tt)
 
 -- ---- decisions
 
-named : (name : List ℕ) (n m : ℕ) → length name ≤ m → n < 2 ^ 64 → Within (name ++ decimal n) (m + 20)
-named name n m h l = part name m h ⊕ number n l
+word : (w : List ℕ) (m : ℕ) → length w ≤ m → Within w m
+word w m h = part w m h
 
-named_short : (name : List ℕ) (n m : ℕ) → length name ≤ m → n < 2 ^ 64 → length (name ++ decimal n) ≤ m + 20
-named_short name n m h l = (named name n m h l).few
+counted_fit : (w : List ℕ) (n m : ℕ) → length w ≤ m → n < 2 ^ 64 → Fit (counted w n) (m + 22)
+counted_fit w n m h l = fit_most _ _ _ (word w m h ⊗ (number n l ⊗ no_fields)) (omega arith)
 
-two_short : (name : List ℕ) (a b m : ℕ) → length name ≤ m → a < 2 ^ 64 → b < 2 ^ 64 → length (name ++ decimal a ++ codes " " ++ decimal b) ≤ m + 20 + 1 + 20
-two_short name a b m h k l = (named name a m h k ⊕ part (codes " ") 1 (lit≤ tt) ⊕ number b l).few
+pair_fit : (w : List ℕ) (a b m : ℕ) → length w ≤ m → a < 2 ^ 64 → b < 2 ^ 64 → Fit (w ∷ decimal a ∷ decimal b ∷ []) (m + 43)
+pair_fit w a b m h k l = fit_most _ _ _ (word w m h ⊗ (number a k ⊗ (number b l ⊗ no_fields))) (omega arith)
 
-fault_short : (f : BlockFault) → FaultInRange f → length (fault_text f) ≤ 60
-fault_short (TooManyParams n) h = at_most _ _ _ (named_short (codes "too-many-params ") n 16 (lit≤ tt) h) (lit≤ tt)
-fault_short (BadEnd n) h = at_most _ _ _ (named_short (codes "bad-end ") n 8 (lit≤ tt) h) (lit≤ tt)
-fault_short (CountChanged a b) h = at_most _ _ _ (two_short (codes "count-changed ") a b 14 (lit≤ tt) h.0 h.1) (lit≤ tt)
-fault_short (EndChanged a b) h = at_most _ _ _ (two_short (codes "end-changed ") a b 12 (lit≤ tt) h.0 h.1) (lit≤ tt)
-fault_short (BadParamType i) h = at_most _ _ _ (named_short (codes "bad-param-type ") i 15 (lit≤ tt) (below_64 i h)) (lit≤ tt)
-fault_short (BadPlace i) h = at_most _ _ _ (named_short (codes "bad-place ") i 10 (lit≤ tt) (below_64 i h)) (lit≤ tt)
-fault_short (UnknownTag n) h = at_most _ _ _ (named_short (codes "unknown-tag ") n 12 (lit≤ tt) h) (lit≤ tt)
-fault_short WrongShape h = lit≤ tt
-fault_short (BadSize i) h = at_most _ _ _ (named_short (codes "bad-size ") i 9 (lit≤ tt) (below_64 i h)) (lit≤ tt)
-fault_short (BadName i) h = at_most _ _ _ (named_short (codes "bad-name ") i 9 (lit≤ tt) (below_64 i h)) (lit≤ tt)
+fault_fit : (f : BlockFault) → FaultInRange f → Fit (fault_fields f) 60
+fault_fit (TooManyParams n) h = fit_most _ _ _ (counted_fit (codes "too-many-params") n 15 (lit≤ tt) h) (lit≤ tt)
+fault_fit (BadEnd n) h = fit_most _ _ _ (counted_fit (codes "bad-end") n 7 (lit≤ tt) h) (lit≤ tt)
+fault_fit (CountChanged a b) h = fit_most _ _ _ (pair_fit (codes "count-changed") a b 13 (lit≤ tt) h.0 h.1) (lit≤ tt)
+fault_fit (EndChanged a b) h = fit_most _ _ _ (pair_fit (codes "end-changed") a b 11 (lit≤ tt) h.0 h.1) (lit≤ tt)
+fault_fit (BadParamType i) h = fit_most _ _ _ (counted_fit (codes "bad-param-type") i 14 (lit≤ tt) (below_64 i h)) (lit≤ tt)
+fault_fit (BadPlace i) h = fit_most _ _ _ (counted_fit (codes "bad-place") i 9 (lit≤ tt) (below_64 i h)) (lit≤ tt)
+fault_fit (UnknownTag n) h = fit_most _ _ _ (counted_fit (codes "unknown-tag") n 11 (lit≤ tt) h) (lit≤ tt)
+fault_fit WrongShape h = record { few = lit≤ tt }
+fault_fit (BadSize i) h = fit_most _ _ _ (counted_fit (codes "bad-size") i 8 (lit≤ tt) (below_64 i h)) (lit≤ tt)
+fault_fit (BadName i) h = fit_most _ _ _ (counted_fit (codes "bad-name") i 8 (lit≤ tt) (below_64 i h)) (lit≤ tt)
 
 word_short : (tag : CallTag) → length (call_word tag) ≤ 12
 word_short Ping = lit≤ tt
@@ -238,12 +269,13 @@ arguments_sum (Str units ∷ args) h k =
     omega (arith, first, rest, sum)
 
 -- at most two strings and at most six arguments
-arguments_short : (args : List Arg) → texts_in args ≤ 2 → length args ≤ 6 → list_all is_short args ≡ true → list_all is_argument args ≡ true
-    → length (flat_map argument_text args) ≤ 3192
-arguments_short args texts few h k =
+arguments_fit : (args : List Arg) → texts_in args ≤ 2 → length args ≤ 6 → list_all is_short args ≡ true → list_all is_argument args ≡ true
+    → Fit (map argument_field args) 3192
+arguments_fit args texts few h k =
+    let same = ap (λ (l : List ℕ). length l) (arguments_same args) in
     let many = length-flat_map argument_text args in
     let most = arguments_sum args h k in
-    omega (arith, many, most, texts, few)
+    record { few = omega (arith, same, many, most, texts, few) }
 
 -- the kinds of a call
 abbrev text_kinds : List ParamKind → ℕ
@@ -292,42 +324,37 @@ read_only_same (Num n ∷ Num access ∷ more) = (refl, refl, refl)
 read_only_same (Str units ∷ Num access ∷ more) = (refl, refl, refl)
 read_only_same (a ∷ Str units ∷ more) = (refl, refl, refl)
 
-granted_short : (tag : CallTag) (args : List Arg) (word : List ℕ) (line : ℕ) → length word ≤ 10 → line < 2 ^ 32 → length (flat_map argument_text args) ≤ 3192
-    → length (codes "performed " ++ call_word tag ++ flat_map argument_text args ++ word ++ decimal line) ≤ 3250
-granted_short tag args word line h l k =
-    let b = part (codes "performed ") 10 (lit≤ tt) ⊕ part (call_word tag) 12 (word_short tag) ⊕ part (flat_map argument_text args) 3192 k ⊕ part word 10 h
-    ⊕ number line (below_64 line l) in
-    at_most _ _ _ b.few (lit≤ tt)
+granted_fit : (tag : CallTag) (args : List Arg) (w : List ℕ) (line : ℕ) → length w ≤ 8 → line < 2 ^ 32 → Fit (map argument_field args) 3192
+    → Fit (codes "performed" ∷ call_word tag ∷ (map argument_field args ++ counted w line)) 3250
+granted_fit tag args w line h l k =
+    fit_most _ _ _ (word (codes "performed") 9 (lit≤ tt) ⊗ (word (call_word tag) 12 (word_short tag)
+    ⊗ fit_both (map argument_field args) (counted w line) 3192 30 k (counted_fit w line 8 h (below_64 line l)))) (lit≤ tt)
 
-denied_short : (tag : CallTag) (word : List ℕ) (line : ℕ) → length word ≤ 10 → line < 2 ^ 32
-    → length (codes "denied " ++ call_word tag ++ (word ++ decimal line)) ≤ 3250
-denied_short tag word line h l =
-    let b = part (codes "denied ") 7 (lit≤ tt) ⊕ part (call_word tag) 12 (word_short tag) ⊕ named word line 10 h (below_64 line l) in
-    at_most _ _ _ b.few (lit≤ tt)
+denied_fit : (tag : CallTag) (w : List ℕ) (line : ℕ) → length w ≤ 5 → line < 2 ^ 32 → Fit (codes "denied" ∷ call_word tag ∷ counted w line) 3250
+denied_fit tag w line h l =
+    fit_most _ _ _ (word (codes "denied") 6 (lit≤ tt) ⊗ (word (call_word tag) 12 (word_short tag) ⊗ counted_fit w line 5 h (below_64 line l))) (lit≤ tt)
 
-decided_short : (tag : CallTag) (args : List Arg) (v : Verdict) → fits tag args ≡ true → list_all is_short args ≡ true → DecisionInRange (shown_decision (by_verdict tag args v))
-    → length (decision_text (by_verdict tag args v)) ≤ 3250
-decided_short tag args verdict.NoRule fit_all short r =
-    let b = part (codes "denied ") 7 (lit≤ tt) ⊕ part (call_word tag) 12 (word_short tag) ⊕ part (codes " norule") 7 (lit≤ tt) in
-    at_most _ _ _ b.few (lit≤ tt)
-decided_short tag args (verdict.Rule line action.Allow) fit_all short r =
+decided_fit : (tag : CallTag) (args : List Arg) (v : Verdict) → fits tag args ≡ true → list_all is_short args ≡ true → DecisionInRange (shown_decision (by_verdict tag args v))
+    → Fit (decision_fields (shown_decision (by_verdict tag args v))) 3250
+decided_fit tag args verdict.NoRule fit_all short r =
+    fit_most _ _ _ (word (codes "denied") 6 (lit≤ tt) ⊗ (word (call_word tag) 12 (word_short tag) ⊗ (word (codes "norule") 6 (lit≤ tt) ⊗ no_fields))) (lit≤ tt)
+decided_fit tag args (verdict.Rule line action.Allow) fit_all short r =
     let few = fitting_few (shape_of tag) args fit_all in
     let shapes = shapes_few tag in
     let texts : texts_in args ≤ 2 = omega (arith, few.0, shapes.0) in
     let many : length args ≤ 6 = omega (arith, few.1, shapes.1) in
-    granted_short tag args (codes " rule ") line (lit≤ tt) r.1 (arguments_short args texts many short r.0)
-decided_short tag args (verdict.Rule line action.ReadOnly) fit_all short r =
+    granted_fit tag args (codes "rule") line (lit≤ tt) r.1 (arguments_fit args texts many short r.0)
+decided_fit tag args (verdict.Rule line action.ReadOnly) fit_all short r =
     let few = fitting_few (shape_of tag) args fit_all in
     let shapes = shapes_few tag in
     let same = read_only_same args in
     let texts : texts_in (read_only_args args) ≤ 2 = omega (arith, few.0, shapes.0, same.0) in
     let many : length (read_only_args args) ≤ 6 = omega (arith, few.1, shapes.1, same.1) in
-    granted_short tag (read_only_args args) (codes " readonly ") line (lit≤ tt) r.1 (arguments_short (read_only_args args) texts many (same.2 ∙ short) r.0)
-decided_short tag args (verdict.Rule line action.Fake) fit_all short r =
-    let b = part (codes "faked ") 6 (lit≤ tt) ⊕ part (call_word tag) 12 (word_short tag) ⊕ part (codes " rule ") 6 (lit≤ tt) ⊕ number line (below_64 line r) in
-    at_most _ _ _ b.few (lit≤ tt)
-decided_short tag args (verdict.Rule line action.Deny) fit_all short r = denied_short tag (codes " rule ") line (lit≤ tt) r
-decided_short tag args (verdict.Rule line action.Alarm) fit_all short r = denied_short tag (codes " alarm ") line (lit≤ tt) r
+    granted_fit tag (read_only_args args) (codes "readonly") line (lit≤ tt) r.1 (arguments_fit (read_only_args args) texts many (same.2 ∙ short) r.0)
+decided_fit tag args (verdict.Rule line action.Fake) fit_all short r =
+    fit_most _ _ _ (word (codes "faked") 5 (lit≤ tt) ⊗ (word (call_word tag) 12 (word_short tag) ⊗ counted_fit (codes "rule") line 4 (lit≤ tt) (below_64 line r))) (lit≤ tt)
+decided_fit tag args (verdict.Rule line action.Deny) fit_all short r = denied_fit tag (codes "rule") line (lit≤ tt) r
+decided_fit tag args (verdict.Rule line action.Alarm) fit_all short r = denied_fit tag (codes "alarm") line (lit≤ tt) r
 
 -- ---- copies
 
@@ -379,17 +406,15 @@ arguments_are_short words (info ∷ infos) h =
     let rest = arguments_are_short words infos h in
     (λ i. first i && rest i)
 
-decision_short : FaultlessCopiesFit → (policy : Policy) (c : Copied) → is_copy c ≡ true → DecisionInRange (shown_decision (decision_of policy c))
-    → length (decision_text (decision_of policy c)) ≤ 3250
-decision_short fitting policy c copy range = by_fault (fault c) refl range
+decision_fit : FaultlessCopiesFit → (policy : Policy) (c : Copied) → is_copy c ≡ true → DecisionInRange (shown_decision (decision_of policy c))
+    → Fit (decision_fields (shown_decision (decision_of policy c))) 3250
+decision_fit fitting policy c copy range = by_fault (fault c) refl range
   where
     by_fault : (o : Option BlockFault) → fault c ≡ o → DecisionInRange (shown_decision (by_decoded policy (call_unless o (call_of c))))
-        → length (decision_text (by_decoded policy (call_unless o (call_of c)))) ≤ 3250
-    by_fault (Some f) e r =
-        let b = part (codes "refused ") 8 (lit≤ tt) ⊕ part (fault_text f) 60 (fault_short f r) in
-        at_most _ _ _ b.few (lit≤ tt)
+        → Fit (decision_fields (shown_decision (by_decoded policy (call_unless o (call_of c))))) 3250
+    by_fault (Some f) e r = fit_most _ _ _ (word (codes "refused") 7 (lit≤ tt) ⊗ fault_fit f r) (lit≤ tt)
     by_fault None e r =
-        decided_short (call_of c).tag (call_of c).args (verdict_of policy (call_of c).tag (call_of c).args) (fitting c e)
+        decided_fit (call_of c).tag (call_of c).args (verdict_of policy (call_of c).tag (call_of c).args) (fitting c e)
         (arguments_are_short c.words (descriptors c.words) (words_most c copy)) r
 
 -- ---- names and channels
@@ -429,60 +454,63 @@ each_target script h =
 
 -- ---- lines
 
+-- a line of fields after a word
+line_short : (w : List ℕ) (fields : List (List ℕ)) (m k : ℕ) → length w ≤ m → Fit fields k → length ((w ++ all_after 32 fields) ++ codes "\n") ≤ m + k + 1
+line_short w fields m k h x = (part w m h ⊕ part (all_after 32 fields) k x.few ⊕ part (codes "\n") 1 (lit≤ tt)).few
+
 pub entry_lines_are_short : FaultlessCopiesFit → EntryLinesAreShort
 entry_lines_are_short fitting policies script ns n e ready legal printable low =
     let there = legal.channel_there in
     let few = channels_few script.targets script.targets e.target (each_target script (ready_sound policies script ready)) in
     let channel : e.channel < 2 ^ 64 = omega (arith, there, few) in
     let policy = policy_at (setting_of policies script).policies e.target in
+    let s = shown_entry script n e in
     let range = subst (λ (d : Decision). DecisionInRange (shown_decision d)) legal.decided printable.decision in
-    let decision = subst (λ (d : Decision). length (decision_text d) ≤ 3250) (sym legal.decided) (decision_short fitting policy e.taken legal.whole range) in
-    let b = named (codes "entry ") n 6 (lit≤ tt) low ⊕ part (codes " ") 1 (lit≤ tt) ⊕ part (target_name script e.target) 32 (names_short script.targets e.target ready.short)
-    ⊕ part (codes " ") 1 (lit≤ tt) ⊕ number e.channel channel ⊕ part (codes " mark ") 6 (lit≤ tt) ⊕ number (mark_of e.taken) printable.mark ⊕ part (codes " ") 1 (lit≤ tt)
-    ⊕ part (decision_text e.decision) 3250 decision ⊕ part (codes " reply ") 7 (lit≤ tt) ⊕ part (reply_text e.reply) 220 (reply_short e.reply printable.reply)
-    ⊕ part (codes "\n") 1 (lit≤ tt) in
-    at_most _ _ _ b.few (lit≤ tt)
+    let decision : Fit (decision_fields s.decision) 3250 =
+    subst (λ (d : Decision). Fit (decision_fields (shown_decision d)) 3250) (sym legal.decided) (decision_fit fitting policy e.taken legal.whole range) in
+    let replied : Fit (codes "reply" ∷ reply_fields s.reply) 226 = word (codes "reply") 5 (lit≤ tt) ⊗ reply_fit s.reply printable.reply in
+    let place : Fit (place_fields s) 101 =
+    number n low ⊗ (word (target_name script e.target) 32 (names_short script.targets e.target ready.short) ⊗ (number e.channel channel
+    ⊗ (word (codes "mark") 4 (lit≤ tt) ⊗ (number (mark_of e.taken) printable.mark ⊗ no_fields)))) in
+    let both = fit_both (decision_fields s.decision) (codes "reply" ∷ reply_fields s.reply) 3250 226 decision replied in
+    let all = fit_both (place_fields s) (decision_fields s.decision ++ codes "reply" ∷ reply_fields s.reply) 101 3476 place both in
+    at_most _ _ _ (line_short (codes "entry") (entry_fields s) 5 3577 (lit≤ tt) all) (lit≤ tt)
 
-call_short : (r : CallResult) → ResultInRange (shown_call r) → length (call_result_text r) ≤ 260
-call_short (call.Reply channel reply) h =
-    let b = named (codes "reply ") channel 6 (lit≤ tt) (below_64 channel h.0) ⊕ part (codes " ") 1 (lit≤ tt) ⊕ part (reply_text reply) 220 (reply_short reply h.1) in
-    at_most _ _ _ b.few (lit≤ tt)
-call_short call.NoChannel h = lit≤ tt
-call_short (call.SendLost channel found) h = at_most _ _ _ (two_short (codes "send-lost ") channel found 10 (lit≤ tt) (below_64 channel h.0) h.1) (lit≤ tt)
-call_short (call.Foreign channel mark) h = at_most _ _ _ (two_short (codes "foreign ") channel mark 8 (lit≤ tt) (below_64 channel h.0) h.1) (lit≤ tt)
-call_short (call.TimedOut channel) h = at_most _ _ _ (named_short (codes "timed-out ") channel 10 (lit≤ tt) (below_64 channel h)) (lit≤ tt)
-
-result_short : (r : StmtResult) → ResultInRange (shown_result r) → length (result_text r) ≤ 260
-result_short (result.Call r) h = call_short r h
-result_short result.Stored h = lit≤ tt
-result_short (result.Found value) h = at_most _ _ _ (named_short (codes "found ") value 6 (lit≤ tt) h) (lit≤ tt)
-result_short (result.Met loads) h = at_most _ _ _ (named_short (codes "met ") loads 4 (lit≤ tt) (below_64 loads h)) (lit≤ tt)
-result_short (result.Unmet loads) h = at_most _ _ _ (named_short (codes "unmet ") loads 6 (lit≤ tt) (below_64 loads h)) (lit≤ tt)
+result_fit : (r : ShownResult) → ResultInRange r → Fit (result_fields r) 260
+result_fit (shown.Reply channel reply) h =
+    fit_most _ _ _ (word (codes "reply") 5 (lit≤ tt) ⊗ (number channel (below_64 channel h.0) ⊗ reply_fit reply h.1)) (lit≤ tt)
+result_fit shown.NoChannel h = record { few = lit≤ tt }
+result_fit (shown.SendLost channel found) h = fit_most _ _ _ (pair_fit (codes "send-lost") channel found 9 (lit≤ tt) (below_64 channel h.0) h.1) (lit≤ tt)
+result_fit (shown.Foreign channel mark) h = fit_most _ _ _ (pair_fit (codes "foreign") channel mark 7 (lit≤ tt) (below_64 channel h.0) h.1) (lit≤ tt)
+result_fit (shown.TimedOut channel) h = fit_most _ _ _ (counted_fit (codes "timed-out") channel 9 (lit≤ tt) (below_64 channel h)) (lit≤ tt)
+result_fit shown.Stored h = record { few = lit≤ tt }
+result_fit (shown.Found value) h = fit_most _ _ _ (counted_fit (codes "found") value 5 (lit≤ tt) h) (lit≤ tt)
+result_fit (shown.Met loads) h = fit_most _ _ _ (counted_fit (codes "met") loads 3 (lit≤ tt) (below_64 loads h)) (lit≤ tt)
+result_fit (shown.Unmet loads) h = fit_most _ _ _ (counted_fit (codes "unmet") loads 5 (lit≤ tt) (below_64 loads h)) (lit≤ tt)
 
 pub result_lines_are_short : ResultLinesAreShort
 result_lines_are_short policies script target thread place r ready printable low below =
-    let b = part (codes "result ") 7 (lit≤ tt) ⊕ part (target_name script target) 32 (names_short script.targets target ready.short) ⊕ part (codes " ") 1 (lit≤ tt)
-    ⊕ number thread low ⊕ part (codes " ") 1 (lit≤ tt) ⊕ number place below ⊕ part (codes " ") 1 (lit≤ tt) ⊕ part (result_text r) 260 (result_short r printable)
-    ⊕ part (codes "\n") 1 (lit≤ tt) in
-    at_most _ _ _ b.few (lit≤ tt)
-
-of_counted : (name : List ℕ) (n m : ℕ) → length name ≤ m → n < 2 ^ 64 → Within (counted name n) (m + 20)
-unfolding counted
-of_counted name n m h l = named name n m h l
+    let s = shown_result_line script target thread place r in
+    let all : Fit (result_line_fields s) 335 =
+    word (target_name script target) 32 (names_short script.targets target ready.short)
+    ⊗ (number thread low ⊗ (number place below ⊗ result_fit s.result printable)) in
+    at_most _ _ _ (line_short (codes "result") (result_line_fields s) 6 335 (lit≤ tt) all) (lit≤ tt)
 
 few_such : (is_such : Entry → Bool) (es : List Entry) → length es < 2 ^ 64 → count_by is_such es < 2 ^ 64
 few_such is_such es low = let most = count_by-le-length is_such es in omega (arith, most, low)
 
 pub totals_are_short : TotalsAreShort
 totals_are_short report entries results =
+    let t = shown_totals report in
     let es = report.entries in
-    let decisions = of_counted (codes " performed ") (count_of is_performed es) 11 (lit≤ tt) (few_such (λ e. is_performed e.decision) es entries)
-    ⊕ of_counted (codes " faked ") (count_of is_faked es) 7 (lit≤ tt) (few_such (λ e. is_faked e.decision) es entries)
-    ⊕ of_counted (codes " denied ") (count_of is_denied es) 8 (lit≤ tt) (few_such (λ e. is_denied e.decision) es entries)
-    ⊕ of_counted (codes " refused ") (count_of is_refused es) 9 (lit≤ tt) (few_such (λ e. is_refused e.decision) es entries) in
-    let b = of_counted (codes "total entries ") (length es) 14 (lit≤ tt) entries ⊕ decisions
-    ⊕ of_counted (codes " results ") (result_count report.results) 9 (lit≤ tt) results ⊕ part (codes "\n") 1 (lit≤ tt) in
-    at_most _ _ _ b.few (lit≤ tt)
+    let all : Fit (totals_fields t) 185 =
+    fit_most _ _ _ (word (codes "entries") 7 (lit≤ tt) ⊗ (number t.entries entries
+    ⊗ (word (codes "performed") 9 (lit≤ tt) ⊗ (number t.performed (few_such (λ e. is_performed e.decision) es entries)
+    ⊗ (word (codes "faked") 5 (lit≤ tt) ⊗ (number t.faked (few_such (λ e. is_faked e.decision) es entries)
+    ⊗ (word (codes "denied") 6 (lit≤ tt) ⊗ (number t.denied (few_such (λ e. is_denied e.decision) es entries)
+    ⊗ (word (codes "refused") 7 (lit≤ tt) ⊗ (number t.refused (few_such (λ e. is_refused e.decision) es entries)
+    ⊗ (word (codes "results") 7 (lit≤ tt) ⊗ (number t.results results ⊗ no_fields)))))))))))) (lit≤ tt) in
+    at_most _ _ _ (line_short (codes "total") (totals_fields t) 5 185 (lit≤ tt) all) (lit≤ tt)
 
 -- ---- all lines
 

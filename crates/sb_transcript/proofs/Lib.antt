@@ -1,6 +1,5 @@
 pub mod Arguments
 pub mod ArgumentsBack
-pub mod Beginnings
 pub mod CountLaws
 pub mod CutLaws
 pub mod Cutting
@@ -12,11 +11,9 @@ pub mod LinesBack
 pub mod NumbersBack
 pub mod PassingLines
 pub mod PlaceLaws
-pub mod PrintedLines
 pub mod Putting
 pub mod RepliesBack
 pub mod ResultsBack
-pub mod Successes
 pub mod Unquoted
 pub mod Unquoting
 pub mod Words

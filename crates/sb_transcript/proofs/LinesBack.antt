@@ -1,9 +1,10 @@
 -- The laws of lines.
 use Rattle.std.proofs.Common.{◌≡◌, ◌∙◌, ℕ, Bool, true, false, cond, List, [], ◌∷◌, ◌++◌, Option, None, Some, codes, refl, sym, ap}
+use Rattle.std.proofs.lemmas.Option.{none-some}
 use Rattle.std.specs.Cmp.Lexicographic.{bytes_decides}
 use Rattle.sb_transcript.specs.Cuts.{cut}
 use Rattle.sb_transcript.specs.Fields.{all_after, first_word, line_fields, written, entry_fields, result_line_fields, totals_fields}
-use Rattle.sb_transcript.specs.ReadingLaws.{LinesAreRead, ReadLinesAreWritten, LinesDiffer}
+use Rattle.sb_transcript.specs.ReadingLaws.{IsLineOf, LinesAreRead, LinesDiffer, ReadLinesAreWritten, ReadingIsExact}
 use Rattle.sb_transcript.specs.Ranges.{InRange}
 use Rattle.sb_transcript.specs.Reading.{line_of_fields, candidate, is_text_of, line_of}
 use Rattle.sb_transcript.specs.Steps.{◌>>=◌}
@@ -49,6 +50,13 @@ from_candidate (Some m) l bytes h = chosen m l bytes (is_text_of m bytes) refl h
 
 pub read_written : ReadLinesAreWritten
 read_written bytes l h = from_candidate (candidate bytes) l bytes h
+
+pub exact : ReadingIsExact
+exact bytes = by_line (line_of bytes) refl
+  where
+    by_line : (o : Option Line) → line_of bytes ≡ o → IsLineOf bytes o
+    by_line (Some l) e = read_written bytes l e
+    by_line None e = λ l h w. none-some l (sym e ∙ (ap line_of (sym w) ∙ lines_read l h))
 
 pub differ : LinesDiffer
 differ a b ha hb e = ap (unwrap a) (sym (lines_read a ha) ∙ ap line_of e ∙ lines_read b hb)

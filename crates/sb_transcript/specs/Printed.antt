@@ -1,11 +1,9 @@
--- What the lines of a transcript show: each line that is printed is written in this form, with an LF.
-use Rattle.std.specs.Prelude.{◌≡◌, ℕ, List, ◌++◌, length, codes}
+-- What the lines of a transcript show of entries and results.
+use Rattle.std.specs.Prelude.{ℕ, List}
 use Rattle.sb_block.specs.Copies.{mark_of}
-use Rattle.sb_book.specs.Reports.{result_count}
 use Rattle.sb_book.specs.declared.decisions.Decision.{Decision}
 use Rattle.sb_book.specs.declared.decisions.Decision.TheVariants as decision
 use Rattle.sb_book.specs.declared.entries.Entry.{Entry}
-use Rattle.sb_book.specs.declared.reports.Report.{Report}
 use Rattle.sb_call.specs.declared.arguments.Arg.{Arg}
 use Rattle.sb_call.specs.declared.replies.Reply.{Reply}
 use Rattle.sb_call.specs.declared.tags.CallTag.{CallTag}
@@ -18,14 +16,11 @@ use Rattle.sb_statements.specs.declared.results.CallResult.TheVariants as call
 use Rattle.sb_statements.specs.declared.results.StmtResult.{StmtResult}
 use Rattle.sb_statements.specs.declared.results.StmtResult.TheVariants as result
 use Rattle.sb_statements.specs.declared.scripts.Script.{Script}
-use Rattle.sb_transcript.specs.EntryLines.{target_name, entry_line}
-use Rattle.sb_transcript.specs.ResultLines.{result_line}
-use Rattle.sb_transcript.specs.Totals.{is_performed, is_faked, is_denied, is_refused, count_of, totals_line}
-use Rattle.sb_transcript.specs.Fields.{written}
+use Rattle.sb_statements.specs.Scripts.{target_name}
+use Rattle.sb_transcript.specs.declared.shown.ShownArgs.{ShownArgs}
+use Rattle.sb_transcript.specs.declared.shown.ShownArgs.TheVariants as args
 use Rattle.sb_transcript.specs.declared.read_lines.EntryLine.{EntryLine}
 use Rattle.sb_transcript.specs.declared.read_lines.ResultLine.{ResultLine}
-use Rattle.sb_transcript.specs.declared.read_lines.TotalsLine.{TotalsLine}
-use Rattle.sb_transcript.specs.declared.read_lines.Line.TheVariants as line
 use Rattle.sb_transcript.specs.declared.read_lines.ShownDecision.{ShownDecision}
 use Rattle.sb_transcript.specs.declared.read_lines.ShownDecision.TheVariants.{Refused, NoRule, Denied, Alarmed, Faked, Allowed, ReadOnly}
 use Rattle.sb_transcript.specs.declared.read_lines.ShownReply.{ShownReply}
@@ -94,24 +89,7 @@ abbrev pub shown_result_line : Script → ℕ → ℕ → ℕ → StmtResult →
 shown_result_line script target thread place r =
     record { target = target_name script target; thread = thread; place = place; result = shown_result r }
 
--- of the totals of a report
-abbrev pub shown_totals : Report → TotalsLine
-shown_totals report = record {
-  entries = length report.entries;
-  performed = count_of is_performed report.entries;
-  faked = count_of is_faked report.entries;
-  denied = count_of is_denied report.entries;
-  refused = count_of is_refused report.entries;
-  results = result_count report.results;
-}
-
--- each line that is printed is what is written of the line that it shows, with an LF
-abbrev pub PrintedEntriesAreWritten : Type 0
-PrintedEntriesAreWritten = (script : Script) (n : ℕ) (e : Entry) → entry_line script n e ≡ written (line.Entry (shown_entry script n e)) ++ codes "\n"
-
-abbrev pub PrintedResultsAreWritten : Type 0
-PrintedResultsAreWritten = (script : Script) (target thread place : ℕ) (r : StmtResult)
-    → result_line script target thread place r ≡ written (line.Result (shown_result_line script target thread place r)) ++ codes "\n"
-
-abbrev pub PrintedTotalsAreWritten : Type 0
-PrintedTotalsAreWritten = (report : Report) → totals_line report ≡ written (line.Totals (shown_totals report)) ++ codes "\n"
+-- the arguments that are borrowed
+abbrev pub args_seen : ShownArgs → List Arg
+args_seen (args.Listed listed) = listed.now
+args_seen (args.Stored stored) = stored

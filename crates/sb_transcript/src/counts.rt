@@ -1,12 +1,11 @@
-// The counts of a report, and the last line of the transcript, which tells them.
-ghost use Rattle.std.specs.Prelude.{◌≡◌, ◌<◌, ◌+◌, ◌++◌, ◌^◌, IfOk, OnOk};
+// The counts of a report.
+ghost use Rattle.std.specs.Prelude.{◌≡◌, ◌<◌, ◌+◌, ◌^◌};
 ghost use Rattle.sb_book.specs.Reports.{result_count, thread_count};
-ghost use Rattle.sb_transcript.specs.Totals.{is_performed, is_faked, is_denied, is_refused, count_of, counted, decisions_text, totals_line};
+ghost use Rattle.sb_transcript.specs.Totals.{is_performed, is_faked, is_denied, is_refused, count_of, shown_totals};
 ghost use Rattle.sb_transcript.specs.Counts.{sum_of, with_ruling};
 
-use sb_base::{NoMemory, put_named};
+use crate::read_lines::TotalsLine;
 use sb_book::{Entries, Report, Ruling, TargetResults, ThreadResults};
-use std::alloc::Global;
 
 // How many entries have each decision.
 #[derive(Clone, Copy)]
@@ -95,38 +94,18 @@ pub fn result_count(targets: &[TargetResults]) -> usize
     count
 }
 
-// A name and a number.
-#[tactic(auto, unfolding(crate::specs::Totals::counted))]
-fn put_counted(line: &mut Vec<u8>, name: &[u8], count: usize) -> Result<(), NoMemory>
-    ensures { OnOk result (line.new.items ≡ line.old.items ++ counted name.now count) }
-{
-    put_named(line, name, count as u64)
-}
-
-fn put_decisions(line: &mut Vec<u8>, entries: &Entries) -> Result<(), NoMemory>
-    ensures { OnOk result (line.new.items ≡ line.old.items ++ decisions_text entries.now) }
-{
-    let counts = decision_counts(entries);
-    put_counted(line, b" performed ", counts.performed)?;
-    put_counted(line, b" faked ", counts.faked)?;
-    put_counted(line, b" denied ", counts.denied)?;
-    put_counted(line, b" refused ", counts.refused)?;
-    Ok(())
-}
-
-/// The last line: how many entries there are, how many of each decision, and how many results, with its LF.
-///
-/// # Errors
-/// `NoMemory` if there was none for the line.
-pub fn totals(alloc: Global, report: &Report) -> Result<Vec<u8>, NoMemory>
+/// The totals of a report: how many entries it has, how many of each decision, and how many results.
+pub fn shown_totals(report: &Report) -> TotalsLine
     requires { result_count report.now.results < 2 ^ 62 }
-    ensures { IfOk result (λ line. line.items ≡ totals_line report.now) }
+    ensures { result ≡ shown_totals report.now }
 {
-    let mut line = Vec::new(alloc);
-    put_counted(&mut line, b"total entries ", report.entries.len())?;
-    put_decisions(&mut line, &report.entries)?;
-    let results = result_count(report.results.as_slice());
-    put_counted(&mut line, b" results ", results)?;
-    line.push(b'\n')?;
-    Ok(line)
+    let counts = decision_counts(&report.entries);
+    TotalsLine {
+        entries: report.entries.len() as u64,
+        performed: counts.performed as u64,
+        faked: counts.faked as u64,
+        denied: counts.denied as u64,
+        refused: counts.refused as u64,
+        results: result_count(report.results.as_slice()) as u64,
+    }
 }

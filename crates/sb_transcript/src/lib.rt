@@ -5,7 +5,6 @@
 mod comma_words;
 mod counts;
 mod cuts;
-mod entries;
 mod hexadecimal;
 mod laws;
 mod length_laws;
@@ -19,30 +18,26 @@ mod reading_entries;
 mod reading_laws;
 mod reading_replies;
 mod reading_results;
-mod results;
+mod shown;
 mod strings;
 mod transcripts;
 mod unread;
 mod writing;
-mod writing_entries;
 
 pub use comma_words::put_comma_words;
-pub use counts::totals;
-pub use entries::{entry_line, put_arguments, put_entry_line, put_fault};
 pub use laws::{
     entries_come_first, lines_are_counted, lines_end_once, numbers_are_results,
     results_are_in_order, results_follow, totals_end, transcripts_tell_their_lines,
 };
 pub use length_laws::{lines_are_short, transcripts_are_short};
 pub use line_buffers::LineBuffer;
-pub use lines::{line, line_count};
+pub use lines::{entry_line, line, line_count, result_line, totals};
 pub use read_lines::{
     EntryLine, Line, ResultLine, ShownDecision, ShownReply, ShownResult, TotalsLine,
 };
 pub use reading::read_line;
 pub use reading_laws::{
-    lines_are_read, lines_differ, printed_lines_are_written, read_lines_are_written,
+    lines_are_read, lines_differ, lines_end_without_cr, read_lines_are_written, reading_is_exact,
 };
-pub use results::result_line;
 pub use transcripts::transcript_lines;
-pub use writing::put_line;
+pub use writing::{put_arguments, put_entry_line, put_fault, put_line, put_verdict};

@@ -66,6 +66,15 @@ impl LineBuffer {
         &self.bytes
     }
 
+    /// All lines, one after the other, in the memory that holds them. Does not allocate.
+    #[tactic(auto, using(crate::proofs::CutLaws::joined_cut))]
+    pub fn into_bytes(self) -> Vec<u8>
+        ensures { result.items ≡ joined self }
+    {
+        let LineBuffer { bytes, lengths: _ } = self;
+        bytes
+    }
+
     /// Puts each line in turn, one put each, and finishes. After a put that failed neither a put nor the finish follows. It allocates no
     /// memory.
     ///

@@ -44,7 +44,7 @@ impl Drop for ShownDecision {
 }
 
 /// What a line shows of a reply: all but the mark.
-#[derive(Drop)]
+#[derive(Drop, PartialEq)]
 pub struct ShownReply {
     /// 0 performed, 1 refused, 2 denied, 3 faked. Bytes in a file may show any number.
     pub outcome: u64,
@@ -110,7 +110,7 @@ pub struct ResultLine {
 }
 
 /// The last line: how many entries there are, how many of each decision, and how many results.
-#[derive(Clone, Copy)]
+#[derive(Clone, Copy, PartialEq)]
 pub struct TotalsLine {
     /// How many entries there are.
     pub entries: u64,

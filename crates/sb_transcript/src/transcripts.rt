@@ -3,13 +3,16 @@ ghost use Rattle.std.specs.Prelude.{◌≡◌, ◌++◌, ◌∷◌, ◌<◌, ◌
 ghost use Rattle.sb_book.specs.Reports.{result_count};
 ghost use Rattle.sb_transcript.specs.EntryLines.{entry_line};
 ghost use Rattle.sb_transcript.specs.LineBuffers.{cut_by, total};
-ghost use Rattle.sb_transcript.specs.ResultLines.{result_end};
+ghost use Rattle.sb_transcript.specs.Fields.{ended};
+ghost use Rattle.sb_transcript.specs.ResultLines.{result_line};
+ghost use Rattle.sb_transcript.specs.declared.read_lines.Line.TheVariants.{Totals};
 ghost use Rattle.sb_transcript.specs.Transcripts.{entry_lines, thread_lines, target_lines, result_lines, transcript_lines};
 
-use crate::counts::{result_count, totals};
-use crate::entries::put_entry_line;
+use crate::counts::{result_count, shown_totals};
 use crate::line_buffers::LineBuffer;
-use crate::results::{put_result_line, put_result_start};
+use crate::places::Place;
+use crate::read_lines::TotalsLine;
+use crate::writing::{put_entry_line, put_result_line, put_totals_line};
 use sb_base::NoMemory;
 use sb_book::{Entries, EntryView, Report, TargetResults, ThreadResults};
 use sb_statements::{Script, StmtResult};
@@ -61,28 +64,26 @@ fn put_entry_lines(
     Ok(())
 }
 
-// Appends the line of a result, which begins with `start`, and notes its length.
+// Appends the line of a result, and notes its length.
 #[tactic(auto, using(crate::proofs::CutLaws::cut_more, crate::proofs::CutLaws::total_more))]
 fn put_result(
     bytes: &mut Vec<u8>,
     lengths: &mut Vec<usize>,
-    start: &[u8],
-    place: usize,
-    result_: &StmtResult,
+    script: &Script,
+    at: &Place<'_>,
 ) -> Result<(), NoMemory>
     requires { total lengths.old.items ≡ length bytes.old.items }
     ensures whole { OnOk result (total lengths.new.items ≡ length bytes.new.items) }
     ensures lines { OnOk result (cut_by lengths.new.items bytes.new.items ≡ cut_by lengths.old.items bytes.old.items
-        ++ (start.now ++ result_end place result_.now) ∷ []) }
+        ++ result_line script.now at.now.target at.now.thread at.now.place at.now.result_.now ∷ []) }
 {
     let before = bytes.len();
-    put_result_line(bytes, start, place, result_)?;
+    put_result_line(bytes, script, at.target, at.thread, at.place, at.result_)?;
     lengths.push(bytes.len() - before)?;
     Ok(())
 }
 
 // Appends the lines of a thread.
-#[tactic(auto, using(crate::proofs::Beginnings::begun))]
 fn put_thread_lines(
     bytes: &mut Vec<u8>,
     lengths: &mut Vec<usize>,
@@ -96,10 +97,14 @@ fn put_thread_lines(
     ensures lines { OnOk result (cut_by lengths.new.items bytes.new.items ≡ cut_by lengths.old.items bytes.old.items
         ++ thread_lines script.now target thread 0 results.now) }
 {
-    let mut start = Vec::new(*bytes.allocator());
-    put_result_start(&mut start, script, target, thread)?;
     for (place, result_) in results.iter().enumerate() {
-        put_result(bytes, lengths, &start, place, result_)?;
+        let at = Place {
+            target,
+            thread,
+            place,
+            result_,
+        };
+        put_result(bytes, lengths, script, &at)?;
     }
     Ok(())
 }
@@ -141,15 +146,20 @@ fn put_result_lines(
     Ok(())
 }
 
-// Appends the last line, and notes its length.
+// Appends the totals, and notes their length.
 #[tactic(auto, using(crate::proofs::CutLaws::cut_more, crate::proofs::CutLaws::total_more))]
-fn put_totals(bytes: &mut Vec<u8>, lengths: &mut Vec<usize>, last: &[u8]) -> Result<(), NoMemory>
+fn put_totals(
+    bytes: &mut Vec<u8>,
+    lengths: &mut Vec<usize>,
+    totals: &TotalsLine,
+) -> Result<(), NoMemory>
     requires { total lengths.old.items ≡ length bytes.old.items }
     ensures whole { OnOk result (total lengths.new.items ≡ length bytes.new.items) }
-    ensures lines { OnOk result (cut_by lengths.new.items bytes.new.items ≡ cut_by lengths.old.items bytes.old.items ++ last.now ∷ []) }
+    ensures lines { OnOk result (cut_by lengths.new.items bytes.new.items ≡ cut_by lengths.old.items bytes.old.items
+        ++ ended (Totals totals.now) ∷ []) }
 {
     let before = bytes.len();
-    bytes.extend_from_slice(last)?;
+    put_totals_line(bytes, totals)?;
     lengths.push(bytes.len() - before)?;
     Ok(())
 }
@@ -178,7 +188,6 @@ pub fn transcript_lines(
     let _lengths = lengths.reserve(count.saturating_add(1));
     put_entry_lines(&mut bytes, &mut lengths, script, &report.entries)?;
     put_result_lines(&mut bytes, &mut lengths, script, report.results.as_slice())?;
-    let last = totals(alloc, report)?;
-    put_totals(&mut bytes, &mut lengths, &last)?;
+    put_totals(&mut bytes, &mut lengths, &shown_totals(report))?;
     Ok(LineBuffer { bytes, lengths })
 }

@@ -14,9 +14,9 @@ use Rattle.sb_book.specs.declared.reports.Report.{Report}
 use Rattle.sb_core.specs.Results.{result_at}
 use Rattle.sb_kernel.specs.Namespaces.{Space}
 use Rattle.sb_kernel.specs.Openings.{opened, opening}
-use Rattle.sb_transcript.specs.ReadingLaws.{LinesAreRead}
-use Rattle.sb_transcript.specs.Printed.{shown_entry, shown_result, shown_result_line, shown_totals, PrintedEntriesAreWritten, PrintedResultsAreWritten, PrintedTotalsAreWritten}
-use Rattle.sb_transcript.specs.Ranges.{EntryInRange, ResultInRange, ResultLineInRange, TotalsInRange}
+use Rattle.sb_transcript.specs.ReadingLaws.{LinesAreRead, LinesEndWithoutCr}
+use Rattle.sb_transcript.specs.Printed.{shown_entry, shown_result, shown_result_line}
+use Rattle.sb_transcript.specs.Ranges.{EntryInRange, InRange, ResultInRange, ResultLineInRange, TotalsInRange}
 use Rattle.sb_transcript.specs.declared.read_lines.EntryLine.{EntryLine}
 use Rattle.sb_transcript.specs.declared.read_lines.Line.{Line}
 use Rattle.sb_transcript.specs.declared.read_lines.Line.TheVariants as line
@@ -29,6 +29,7 @@ use Rattle.sb_statements.specs.declared.results.StmtResult.{StmtResult}
 use Rattle.sb_statements.specs.declared.scripts.Script.{Script}
 use Rattle.sb_transcript.specs.Laws.{LinesEndOnce}
 use Rattle.sb_transcript.specs.Totals as totals
+use Rattle.sb_transcript.specs.Totals.{shown_totals}
 use Rattle.sb_audit.specs.Audited.{audited_from, failing}
 use Rattle.sb_audit.specs.Before.{entries_of, entry_count, has_totals, result_count}
 use Rattle.sb_audit.specs.Clauses.{count_of, is_denied, is_faked, is_performed, is_refused, same_totals, totals_due}
@@ -44,7 +45,7 @@ use Rattle.sb_audit.proofs.Converse.Lists.{AllOf, AllOf-append, some_same}
 use Rattle.sb_audit.proofs.Converse.Places.{IsThere, few_channels, short_named, statement_there}
 use Rattle.sb_audit.proofs.Converse.ResultsPass.{AreAllPlaced, IsRightResult, all_placed, few_results, results_pass, right_result, spot_of, spots_are}
 use Rattle.sb_audit.proofs.Converse.ShownLines.{line_of_result, placed, placed_at, placed_target, placed_thread, shown_entries, shown_lines, transcript_read}
-use Rattle.sb_audit.proofs.Converse.Walking.{IsBefore, IsClear, IsRead, before_entries, before_results, clear-append, entries_of-append, has_totals-append, nothing_before, result_count-append, walked}
+use Rattle.sb_audit.proofs.Converse.Walking.{IsBefore, IsClear, IsRead, before_entries, before_results, clear-append, entries_of-append, has_totals-append, nothing_before, read_whole, result_count-append, walked}
 
 -- ---- how many results there are
 
@@ -119,7 +120,7 @@ entry_in_range script n e sound short p printable low =
       reply = printable.reply;
     }
 
-entries_read : LinesAreRead → (script : Script) (m : ℕ) (es : List Entry) → is_sound script ≡ true → has_short_names script ≡ true
+entries_read : ((l : Line) → InRange l → IsRead l) → (script : Script) (m : ℕ) (es : List Entry) → is_sound script ≡ true → has_short_names script ≡ true
     → ((n : ℕ) (e : Entry) → slice_get es n ≡ Some e → IsPlaced script e × IsPrintableEntry e) → m + length es < 2 ^ 64
     → AllOf IsRead (map line.Entry (shown_entries script m es))
 entries_read read script m [] sound short h low = tt
@@ -199,9 +200,10 @@ sound_of policies script ready =
     let most = and_parts (is_sound script && are_well_made policies) (list_all (is_judged (length policies)) script.targets) all.0 in
     (and_parts (is_sound script) (are_well_made policies) most.0).0
 
-pub transcripts_pass : LinesAreRead → PrintedEntriesAreWritten → PrintedResultsAreWritten → PrintedTotalsAreWritten → LinesEndOnce → FaultlessCopiesFit
+pub transcripts_pass : LinesAreRead → LinesEndWithoutCr → LinesEndOnce → FaultlessCopiesFit
     → DecidingRuleIsFirst → ReportsThatFitAreAudited
-transcripts_pass read pe pr pt once fitting deciding policies script report ready fits printable =
+transcripts_pass lines without once fitting deciding policies script report ready fits printable =
+    let read : (l : Line) → InRange l → IsRead l = read_whole lines without in
     let sound = sound_of policies script ready in
     let short = ready.short in
     let es = shown_entries script 0 report.entries in
@@ -238,7 +240,7 @@ transcripts_pass read pe pr pt once fitting deciding policies script report read
     AllOf-append IsRead of_entries (of_results ++ t ∷ []) read_entries (AllOf-append IsRead of_results (t ∷ []) read_results (read_totals, tt)) in
     let whole = whole_answer script es (length all) of_entries of_results t after refl refl refl in
     let answer = walked policies script [] 0 1 (shown_lines script report) reads clear whole.0 in
-    ap (audited_from policies script [] 0) (transcript_read pe pr pt once policies script report ready)
+    ap (audited_from policies script [] 0) (transcript_read once policies script report ready)
     ∙ answer
     ∙ ap (λ n. Yes n (result_count (shown_lines script report))) (whole.1 ∙ length-shown script 0 report.entries)
     ∙ ap (λ n. Yes (length report.entries) n) (whole.2 ∙ length-placed 0 report.results)

@@ -6,7 +6,7 @@ use Rattle.sb_book.specs.Readiness.{IsReady}
 use Rattle.sb_book.specs.declared.entries.Entry.{Entry}
 use Rattle.sb_book.specs.declared.reports.Report.{Report}
 use Rattle.sb_transcript.specs.Fields.{written}
-use Rattle.sb_transcript.specs.Printed.{shown_entry, shown_result_line, shown_totals, PrintedEntriesAreWritten, PrintedResultsAreWritten, PrintedTotalsAreWritten}
+use Rattle.sb_transcript.specs.Printed.{shown_entry, shown_result_line}
 use Rattle.sb_transcript.specs.declared.read_lines.EntryLine.{EntryLine}
 use Rattle.sb_transcript.specs.declared.read_lines.Line.{Line}
 use Rattle.sb_transcript.specs.declared.read_lines.Line.TheVariants as line
@@ -15,7 +15,7 @@ use Rattle.sb_rule.specs.declared.policies.Policy.{Policy}
 use Rattle.sb_statements.specs.declared.results.StmtResult.{StmtResult}
 use Rattle.sb_statements.specs.declared.scripts.Script.{Script}
 use Rattle.sb_text.specs.Lines.{numbered_raw_lines}
-use Rattle.sb_transcript.specs.Totals.{totals_line}
+use Rattle.sb_transcript.specs.Totals.{shown_totals, totals_line}
 use Rattle.sb_transcript.specs.Laws.{LinesEndOnce}
 use Rattle.sb_base.specs.OneLine.{is_one_line}
 use Rattle.sb_transcript.specs.Transcripts.{entry_lines, thread_lines, target_lines, result_lines, transcript, transcript_lines}
@@ -64,58 +64,52 @@ shown_lines script report =
 abbrev text_of : Line → List ℕ
 text_of l = with_lf (written l)
 
-entries_printed : PrintedEntriesAreWritten → (script : Script) (n : ℕ) (es : List Entry) → entry_lines script n es ≡ map text_of (map line.Entry (shown_entries script n es))
-entries_printed p script n [] = refl
-entries_printed p script n (e ∷ es) =
-    ap (λ w. w ∷ entry_lines script (n + 1) es) (p script n e) ∙ ap (λ ls. text_of (line.Entry (shown_entry script n e)) ∷ ls) (entries_printed p script (n + 1) es)
+entries_printed : (script : Script) (n : ℕ) (es : List Entry) → entry_lines script n es ≡ map text_of (map line.Entry (shown_entries script n es))
+entries_printed script n [] = refl
+entries_printed script n (e ∷ es) = ap (λ ls. text_of (line.Entry (shown_entry script n e)) ∷ ls) (entries_printed script (n + 1) es)
 
-thread_printed : PrintedResultsAreWritten → (script : Script) (t k i : ℕ) (rs : List StmtResult)
+thread_printed : (script : Script) (t k i : ℕ) (rs : List StmtResult)
     → thread_lines script t k i rs ≡ map (λ x. text_of (line_of_result script x)) (placed_thread t k i rs)
-thread_printed p script t k i [] = refl
-thread_printed p script t k i (r ∷ rs) =
-    ap (λ w. w ∷ thread_lines script t k (i + 1) rs) (p script t k i r)
-    ∙ ap (λ ls. text_of (line_of_result script (placed_at t k i r)) ∷ ls) (thread_printed p script t k (i + 1) rs)
+thread_printed script t k i [] = refl
+thread_printed script t k i (r ∷ rs) = ap (λ ls. text_of (line_of_result script (placed_at t k i r)) ∷ ls) (thread_printed script t k (i + 1) rs)
 
-target_printed : PrintedResultsAreWritten → (script : Script) (t k : ℕ) (threads : List (List StmtResult))
+target_printed : (script : Script) (t k : ℕ) (threads : List (List StmtResult))
     → target_lines script t k threads ≡ map (λ x. text_of (line_of_result script x)) (placed_target t k threads)
-target_printed p script t k [] = refl
-target_printed p script t k (rs ∷ more) =
-    ap (λ ls. ls ++ target_lines script t (k + 1) more) (thread_printed p script t k 0 rs)
-    ∙ ap (λ ls. map (λ x. text_of (line_of_result script x)) (placed_thread t k 0 rs) ++ ls) (target_printed p script t (k + 1) more)
+target_printed script t k [] = refl
+target_printed script t k (rs ∷ more) =
+    ap (λ ls. ls ++ target_lines script t (k + 1) more) (thread_printed script t k 0 rs)
+    ∙ ap (λ ls. map (λ x. text_of (line_of_result script x)) (placed_thread t k 0 rs) ++ ls) (target_printed script t (k + 1) more)
     ∙ sym (map-append (λ x. text_of (line_of_result script x)) (placed_thread t k 0 rs) (placed_target t (k + 1) more))
 
-results_printed : PrintedResultsAreWritten → (script : Script) (t : ℕ) (results : List (List (List StmtResult)))
+results_printed : (script : Script) (t : ℕ) (results : List (List (List StmtResult)))
     → result_lines script t results ≡ map (λ x. text_of (line_of_result script x)) (placed t results)
-results_printed p script t [] = refl
-results_printed p script t (threads ∷ more) =
-    ap (λ ls. ls ++ result_lines script (t + 1) more) (target_printed p script t 0 threads)
-    ∙ ap (λ ls. map (λ x. text_of (line_of_result script x)) (placed_target t 0 threads) ++ ls) (results_printed p script (t + 1) more)
+results_printed script t [] = refl
+results_printed script t (threads ∷ more) =
+    ap (λ ls. ls ++ result_lines script (t + 1) more) (target_printed script t 0 threads)
+    ∙ ap (λ ls. map (λ x. text_of (line_of_result script x)) (placed_target t 0 threads) ++ ls) (results_printed script (t + 1) more)
     ∙ sym (map-append (λ x. text_of (line_of_result script x)) (placed_target t 0 threads) (placed (t + 1) more))
 
 -- the lines of a transcript are what is written of those that are shown, each with an LF
-all_printed : PrintedEntriesAreWritten → PrintedResultsAreWritten → PrintedTotalsAreWritten → (script : Script) (report : Report)
+all_printed : (script : Script) (report : Report)
     → transcript_lines script report ≡ map with_lf (map written (shown_lines script report))
-all_printed pe pr pt script report =
+all_printed script report =
     let entries = map line.Entry (shown_entries script 0 report.entries) in
     let results = map (line_of_result script) (placed 0 report.results) in
-    let of_entries : entry_lines script 0 report.entries ≡ map text_of entries = entries_printed pe script 0 report.entries in
+    let of_entries : entry_lines script 0 report.entries ≡ map text_of entries = entries_printed script 0 report.entries in
     let of_results : result_lines script 0 report.results ≡ map text_of results =
-    results_printed pr script 0 report.results ∙ sym (map_twice text_of (line_of_result script) (placed 0 report.results)) in
-    let of_totals : totals_line report ∷ [] ≡ map text_of (line.Totals (shown_totals report) ∷ []) = ap (λ w. w ∷ []) (pt report) in
+    results_printed script 0 report.results ∙ sym (map_twice text_of (line_of_result script) (placed 0 report.results)) in
     ap (λ ls. ls ++ result_lines script 0 report.results ++ totals_line report ∷ []) of_entries
     ∙ ap (λ ls. map text_of entries ++ ls ++ totals_line report ∷ []) of_results
-    ∙ ap (λ ls. map text_of entries ++ map text_of results ++ ls) of_totals
     ∙ append_assoc (map text_of entries) (map text_of results) (map text_of (line.Totals (shown_totals report) ∷ []))
     ∙ ap (λ ls. map text_of entries ++ ls) (sym (map-append text_of results (line.Totals (shown_totals report) ∷ [])))
     ∙ sym (map-append text_of entries (results ++ line.Totals (shown_totals report) ∷ []))
     ∙ sym (map_twice with_lf written (shown_lines script report))
 
 -- so a transcript falls into them
-pub transcript_read : PrintedEntriesAreWritten → PrintedResultsAreWritten → PrintedTotalsAreWritten → LinesEndOnce
-    → (policies : List Policy) (script : Script) (report : Report) → IsReady policies script
+pub transcript_read : LinesEndOnce → (policies : List Policy) (script : Script) (report : Report) → IsReady policies script
     → numbered_raw_lines (transcript script report) ≡ raws_from 1 (map written (shown_lines script report))
-transcript_read pe pr pt once policies script report ready =
-    let same = all_printed pe pr pt script report in
+transcript_read once policies script report ready =
+    let same = all_printed script report in
     let ends : list_all is_one_line (map with_lf (map written (shown_lines script report))) ≡ true =
     subst (λ (ls : List (List ℕ)). list_all is_one_line ls ≡ true) same (once policies script report ready) in
     ap (λ ls. numbered_raw_lines (joined ls)) same ∙ lines_back (map written (shown_lines script report)) ends

@@ -1,17 +1,19 @@
 -- An audit walks through lines at which no clause fails.
-use Rattle.std.proofs.Common.{◌≡◌, ◌∙◌, ℕ, ◌+◌, true, false, cond, ◌||◌, List, [], ◌∷◌, ◌++◌, map, length, None, Some, refl, ap, sym, subst, append_assoc, arith}
+use Rattle.std.proofs.Common.{◌≡◌, ◌∙◌, ℕ, ◌+◌, true, false, cond, ◌||◌, List, [], ◌∷◌, ◌++◌, ◌-◌, map, length, take, if◌then◌else◌, None, Some, refl, ap, sym, subst, append_assoc, arith}
 use Rattle.std.proofs.lemmas.List.{append-nil}
 use Rattle.std.proofs.lemmas.List.Folds.{list_any-append}
 use Rattle.std.proofs.lemmas.List.Sums.{sum_by-append, sum_by-cons}
 use Rattle.std.specs.Prelude.{⊤}
 use Rattle.sb_transcript.specs.Fields.{written}
+use Rattle.sb_transcript.specs.Ranges.{InRange}
 use Rattle.sb_transcript.specs.Reading.{line_of}
+use Rattle.sb_transcript.specs.ReadingLaws.{LinesAreRead, LinesEndWithoutCr}
 use Rattle.sb_transcript.specs.declared.read_lines.EntryLine.{EntryLine}
 use Rattle.sb_transcript.specs.declared.read_lines.Line.{Line}
 use Rattle.sb_transcript.specs.declared.read_lines.Line.TheVariants as line
 use Rattle.sb_rule.specs.declared.policies.Policy.{Policy}
 use Rattle.sb_statements.specs.declared.scripts.Script.{Script}
-use Rattle.sb_text.specs.Lines.{NumberedRawLine}
+use Rattle.sb_text.specs.Lines.{NumberedRawLine, without_cr}
 use Rattle.sb_audit.specs.Answers.{refutation}
 use Rattle.sb_audit.specs.Audited.{answer_at, audited_from, end_answer, failing, failing_line, with_line}
 use Rattle.sb_audit.specs.Before.{entries_of, entry_count, has_totals, is_result, is_totals, result_count}
@@ -32,9 +34,12 @@ clear-append policies script before [] ys a b = subst (λ (z : List Line). IsCle
 clear-append policies script before (x ∷ xs) ys a b =
     (a.0, clear-append policies script (before ++ x ∷ []) xs ys a.1 (subst (λ (z : List Line). IsClear policies script z ys) (sym (append_assoc before (x ∷ []) xs)) b))
 
--- what is written of the line is read as it
+-- what is written of the line is read as it, also if one CR is dropped at its end
 abbrev pub IsRead : Line → Type 0
-IsRead l = line_of (written l) ≡ Some l
+IsRead l = line_of (without_cr (written l)) ≡ Some l
+
+pub read_whole : LinesAreRead → LinesEndWithoutCr → (l : Line) → InRange l → IsRead l
+read_whole read without l h = ap line_of (ap (λ t. if t then take (length (written l) - 1) (written l) else written l) (without l h)) ∙ read l h
 
 line_step : (policies : List Policy) (script : Script) (before : List Line) (n m : ℕ) (l : Line) (more : List NumberedRawLine) → IsRead l
     → failing policies script before l ≡ None

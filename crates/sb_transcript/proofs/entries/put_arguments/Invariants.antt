@@ -1,7 +1,0 @@
-use Rattle.std.proofs.Common.{◌≡◌, ◌++◌, take}
-use Rattle.std.specs.List.{flat_map}
-use Rattle.sb_transcript.specs.EntryLines.{argument_text}
-use Rattle.sb_transcript.proofs.entries.put_arguments.Given as goal
-
-abbrev pub invariant-loop-arg : goal.invariant-loop-arg
-invariant-loop-arg l = l.line.items ≡ l.initial.line.items ++ flat_map argument_text (take l.arg-index l.args)
