@@ -31,15 +31,15 @@ pub record Waiting (clean : List Bool) (patience size c loads : ℕ) (found : Li
   pub waited : Waited clean patience size c values found
   pub counted : get_or clean c true ≡ false → (loads ≡ length values) × (loads < patience)
 
-abbrev pub Stands : ThreadAt → List ℕ → ThreadStage → Type 0
-Stands x found (stage.Try c rounds all_abandoned) = Trying x.clean x.patience c rounds all_abandoned found
-Stands x found (stage.Fill c i) = Filled x.clean x.patience c i found × (i < length x.block)
-Stands x found (stage.Send c) = Filled x.clean x.patience c (length x.block) found
-Stands x found (stage.Wait c loads) = Waiting x.clean x.patience (length x.block) c loads found
-Stands x found (stage.Fetch c words) = Fetched x.clean x.patience (length x.block) c words found
-Stands x found (stage.Free c words) = Fetched x.clean x.patience (length x.block) c words found × (length words ≡ 12)
-Stands x found (stage.Abandon c) = (values : List ℕ) × Waited x.clean x.patience (length x.block) c values found × (get_or x.clean c true ≡ false) × (length values ≡ x.patience)
-Stands x found _ = ⊥
+abbrev pub AreIn : ThreadAt → List ℕ → ThreadStage → Type 0
+AreIn x found (stage.Try c rounds all_abandoned) = Trying x.clean x.patience c rounds all_abandoned found
+AreIn x found (stage.Fill c i) = Filled x.clean x.patience c i found × (i < length x.block)
+AreIn x found (stage.Send c) = Filled x.clean x.patience c (length x.block) found
+AreIn x found (stage.Wait c loads) = Waiting x.clean x.patience (length x.block) c loads found
+AreIn x found (stage.Fetch c words) = Fetched x.clean x.patience (length x.block) c words found
+AreIn x found (stage.Free c words) = Fetched x.clean x.patience (length x.block) c words found × (length words ≡ 12)
+AreIn x found (stage.Abandon c) = (values : List ℕ) × Waited x.clean x.patience (length x.block) c values found × (get_or x.clean c true ≡ false) × (length values ≡ x.patience)
+AreIn x found _ = ⊥
 
 abbrev pub Cause : ThreadAt → List ℕ → ℕ → CallResult → Type 0
 Cause x found last q = CauseOf x.clean x.patience (length x.block) (mark_at x.thread x.place) found last q
@@ -51,7 +51,7 @@ module _ (script : Script) (x : ThreadAt) where
 
   -- what a step that found n leads to: the thread goes on to such a stage, or the call ends for its cause
   abbrev Goes : List ℕ → ℕ → ThreadNext → Type 0
-  Goes found n next = (s : ThreadStage) × (next ≡ goes_on x s) × Stands x (found ++ n ∷ []) s
+  Goes found n next = (s : ThreadStage) × (next ≡ goes_on x s) × AreIn x (found ++ n ∷ []) s
 
   abbrev Stops : List ℕ → ℕ → ThreadNext → Type 0
   Stops found n next = (q : CallResult) × (next.ended ≡ Some (ended.Call q)) × Cause x found n q
@@ -171,7 +171,7 @@ module _ (script : Script) (x : ThreadAt) where
         many = let s = length_snoc h.fills n in let t = h.many in omega (arith, s, t, e);
       }
 
-      by_test : (b : Bool) → eqb (i + 1) (length x.block) ≡ b → Stands x (found ++ n ∷ []) (cond b (stage.Send c) (stage.Fill c (i + 1)))
+      by_test : (b : Bool) → eqb (i + 1) (length x.block) ≡ b → AreIn x (found ++ n ∷ []) (cond b (stage.Send c) (stage.Fill c (i + 1)))
       by_test true e = more (length x.block) (sym (eqb-true (i + 1) (length x.block) e))
       by_test false e = (more (i + 1) refl, grind (arith, nat_tests, e, l))
 
@@ -204,7 +204,7 @@ module _ (script : Script) (x : ThreadAt) where
       }
 
       by_tests : (a b d : Bool) → eqb n 4 ≡ a → get_or x.clean c true ≡ b → eqb (loads + 1) x.patience ≡ d
-          → Stands x (found ++ n ∷ []) (cond a (stage.Fetch c []) (cond b (stage.Wait c loads) (cond d (stage.Abandon c) (stage.Wait c (loads + 1)))))
+          → AreIn x (found ++ n ∷ []) (cond a (stage.Fetch c []) (cond b (stage.Wait c loads) (cond d (stage.Abandon c) (stage.Wait c (loads + 1)))))
       by_tests true b d e f g = record {
         before = found;
         loads = h.values;
@@ -236,7 +236,7 @@ module _ (script : Script) (x : ThreadAt) where
       more : Fetched x.clean x.patience (length x.block) c (words ++ n ∷ []) (found ++ n ∷ [])
       more = record { before = h.before; loads = h.loads; waited = h.waited; is = snoc_behind found h.before 4 words n h.is; in_time = h.in_time }
 
-      by_test : (b : Bool) → eqb (length (words ++ n ∷ [])) 12 ≡ b → Stands x (found ++ n ∷ []) (cond b (stage.Free c (words ++ n ∷ [])) (stage.Fetch c (words ++ n ∷ [])))
+      by_test : (b : Bool) → eqb (length (words ++ n ∷ [])) 12 ≡ b → AreIn x (found ++ n ∷ []) (cond b (stage.Free c (words ++ n ∷ [])) (stage.Fetch c (words ++ n ∷ [])))
       by_test true e = (more, eqb-true (length (words ++ n ∷ [])) 12 e)
       by_test false e = more
 
@@ -251,7 +251,7 @@ module _ (script : Script) (x : ThreadAt) where
       by_test false e = (words, h, l, refl, (λ k. let t = eq-eqb (read_reply words).mark (mark_at x.thread x.place) k in absurd (cc)))
 
   -- each step
-  each_step : 0 < length x.block → 0 < x.patience → (s : ThreadStage) (found : List ℕ) (n : ℕ) → Stands x found s → Comes found n (thread_after script (at s) (Value n))
+  each_step : 0 < length x.block → 0 < x.patience → (s : ThreadStage) (found : List ℕ) (n : ℕ) → AreIn x found s → Comes found n (thread_after script (at s) (Value n))
   each_step some patient (stage.Try c rounds all_abandoned) found n h = tried_step found c rounds n all_abandoned h some
   each_step some patient (stage.Fill c i) found n h = filled_step found c i n h.0 h.1
   each_step some patient (stage.Send c) found n h = sent_step patient found c n h
@@ -269,7 +269,7 @@ module _ (script : Script) (x : ThreadAt) where
   last_step found n r next (inl (s, e, h)) k = let t = ap (λ (z : ThreadNext). z.ended) e in absurd (cc)
   last_step found n r next (inr (q, e, h)) k = (q, (cc), h)
 
-  along : 0 < length x.block → 0 < x.patience → (s : ThreadStage) (seen found : List ℕ) (last : ℕ) (r : StmtResult) → Stands x seen s → Ends script (at s) found last r
+  along : 0 < length x.block → 0 < x.patience → (s : ThreadStage) (seen found : List ℕ) (last : ℕ) (r : StmtResult) → AreIn x seen s → Ends script (at s) found last r
       → Caused (seen ++ found) last r
   along some patient s seen [] last r h k =
       subst (λ (l : List ℕ). Caused l last r) (sym (append-nil seen)) (last_step seen last r (thread_after script (at s) (Value last)) (each_step some patient s seen last h) k)
@@ -278,12 +278,12 @@ module _ (script : Script) (x : ThreadAt) where
       (by_step (thread_after script (at s) (Value n)) (each_step some patient s seen n h) k (λ z g j. along some patient z (seen ++ n ∷ []) found last r g j))
     where
       by_step : (next : ThreadNext) → Comes seen n next → (next.ended ≡ None) × Ends script next.thread found last r
-          → ((z : ThreadStage) → Stands x (seen ++ n ∷ []) z → Ends script (at z) found last r → Caused ((seen ++ n ∷ []) ++ found) last r)
+          → ((z : ThreadStage) → AreIn x (seen ++ n ∷ []) z → Ends script (at z) found last r → Caused ((seen ++ n ∷ []) ++ found) last r)
           → Caused ((seen ++ n ∷ []) ++ found) last r
       by_step next (inl (z, e, g)) j rest = rest z g (subst (λ (y : ThreadNext). Ends script y.thread found last r) e j.1)
       by_step next (inr (q, e, g)) j rest = let t = j.0 in absurd (cc)
 
-  begun : BeginsCall x → Stands x [] (stage.Try 0 0 true)
+  begun : BeginsCall x → AreIn x [] (stage.Try 0 0 true)
   begun b = record {
     tried = record { rounds = []; part = []; is = refl; whole = refl; taken = refl; at = refl; there = b.channels; in_time = λ g. b.patient };
     counted = λ g. refl;

@@ -240,20 +240,20 @@ module _ (script : Script) (x : ThreadAt) where
       (before (stage.Send c) (stage.Wait c 0) 2 values y (sent c) k))
 
   -- the words of the reply
-  run_words : (n : ℕ) (words : List ℕ) (c : ℕ) (had : List ℕ) → length had + length words + 1 ≡ 12
-      → Leads script (at (stage.Fetch c had)) (n ∷ words) (at (stage.Free c (had ++ n ∷ words)))
-  run_words n [] c had e =
-      let size = length_snoc had n in
-      let end = eq-eqb (length (had ++ n ∷ [])) 12 (omega (arith, e, size)) in
-      before (stage.Fetch c had) (stage.Free c (had ++ n ∷ [])) n [] (at (stage.Free c (had ++ n ∷ [])))
-      (ap (λ (b : Bool). goes_on x (cond b (stage.Free c (had ++ n ∷ [])) (stage.Fetch c (had ++ n ∷ [])))) end) refl
-  run_words n (m ∷ words) c had e =
-      let size = length_snoc had n in
-      let inside : eqb (length (had ++ n ∷ [])) 12 ≡ false = grind (arith, nat_tests, e, size) in
-      let rest = run_words m words c (had ++ n ∷ []) (omega (arith, e, size)) in
-      before (stage.Fetch c had) (stage.Fetch c (had ++ n ∷ [])) n (m ∷ words) (at (stage.Free c (had ++ n ∷ m ∷ words)))
-      (ap (λ (b : Bool). goes_on x (cond b (stage.Free c (had ++ n ∷ [])) (stage.Fetch c (had ++ n ∷ [])))) inside)
-      (subst (λ (l : List ℕ). Leads script (at (stage.Fetch c (had ++ n ∷ []))) (m ∷ words) (at (stage.Free c l))) (append_assoc had (n ∷ []) (m ∷ words)) rest)
+  run_words : (n : ℕ) (words : List ℕ) (c : ℕ) (ended_calls : List ℕ) → length ended_calls + length words + 1 ≡ 12
+      → Leads script (at (stage.Fetch c ended_calls)) (n ∷ words) (at (stage.Free c (ended_calls ++ n ∷ words)))
+  run_words n [] c ended_calls e =
+      let size = length_snoc ended_calls n in
+      let end = eq-eqb (length (ended_calls ++ n ∷ [])) 12 (omega (arith, e, size)) in
+      before (stage.Fetch c ended_calls) (stage.Free c (ended_calls ++ n ∷ [])) n [] (at (stage.Free c (ended_calls ++ n ∷ [])))
+      (ap (λ (b : Bool). goes_on x (cond b (stage.Free c (ended_calls ++ n ∷ [])) (stage.Fetch c (ended_calls ++ n ∷ [])))) end) refl
+  run_words n (m ∷ words) c ended_calls e =
+      let size = length_snoc ended_calls n in
+      let inside : eqb (length (ended_calls ++ n ∷ [])) 12 ≡ false = grind (arith, nat_tests, e, size) in
+      let rest = run_words m words c (ended_calls ++ n ∷ []) (omega (arith, e, size)) in
+      before (stage.Fetch c ended_calls) (stage.Fetch c (ended_calls ++ n ∷ [])) n (m ∷ words) (at (stage.Free c (ended_calls ++ n ∷ m ∷ words)))
+      (ap (λ (b : Bool). goes_on x (cond b (stage.Free c (ended_calls ++ n ∷ [])) (stage.Fetch c (ended_calls ++ n ∷ [])))) inside)
+      (subst (λ (l : List ℕ). Leads script (at (stage.Fetch c (ended_calls ++ n ∷ []))) (m ∷ words) (at (stage.Free c l))) (append_assoc ended_calls (n ∷ []) (m ∷ words)) rest)
 
   all_words : (words : List ℕ) (c : ℕ) → length words ≡ 12 → Leads script (at (stage.Fetch c [])) words (at (stage.Free c words))
   all_words [] c e = absurd (omega (arith, e))

@@ -10,6 +10,7 @@ pub mod Finding
 pub mod GivingUp
 pub mod Holders
 pub mod Lists
+pub mod MarkLemmas
 pub mod Parts
 pub mod Rows
 pub mod Soundness

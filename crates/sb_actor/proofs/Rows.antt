@@ -3,7 +3,7 @@ use Rattle.std.proofs.Common.{◌≡◌, ℕ, ◌+◌, ◌*◌, ◌<◌, ◌≢�
 use Rattle.std.proofs.lemmas.Bool.Decides.{nat_tests}
 use Rattle.std.proofs.lemmas.Grind.{common_steps}
 use native.Mathlib.Decide.{ℕ_discrete}
-use Rattle.sb_actor.specs.Rule.{Row, row, Stands, Mid}
+use Rattle.sb_actor.specs.Rule.{Row, row, AreIn, Owner}
 
 abbrev pub put : ℕ → ℕ → Row → Row
 put j x f i = cond (eqb i j) x (f i)
@@ -14,14 +14,14 @@ put_here j x f i e = rw (eq-eqb i j e)
 pub put_else : (j x : ℕ) (f : Row) (i : ℕ) → i ≢ j → put j x f i ≡ f i
 put_else j x f i n = rw (ne_eqb i j n)
 
-abbrev pub upd : (ℕ → Mid) → ℕ → Mid → ℕ → Mid
-upd mids c m d = cond (eqb d c) m (mids d)
+abbrev pub upd : (ℕ → Owner) → ℕ → Owner → ℕ → Owner
+upd owners c m d = cond (eqb d c) m (owners d)
 
-pub upd_here : (mids : ℕ → Mid) (c : ℕ) (m : Mid) (d : ℕ) → d ≡ c → upd mids c m d ≡ m
-upd_here mids c m d e = rw (eq-eqb d c e)
+pub upd_here : (owners : ℕ → Owner) (c : ℕ) (m : Owner) (d : ℕ) → d ≡ c → upd owners c m d ≡ m
+upd_here owners c m d e = rw (eq-eqb d c e)
 
-pub upd_else : (mids : ℕ → Mid) (c : ℕ) (m : Mid) (d : ℕ) → d ≢ c → upd mids c m d ≡ mids d
-upd_else mids c m d n = rw (ne_eqb d c n)
+pub upd_else : (owners : ℕ → Owner) (c : ℕ) (m : Owner) (d : ℕ) → d ≢ c → upd owners c m d ≡ owners d
+upd_else owners c m d n = rw (ne_eqb d c n)
 
 else_at : (words : List ℕ) (w x c d j i : ℕ) → w ≡ c * 65 + j → j < 65 → d ≢ c → (b : Bool) → ltb i 65 ≡ b
     → cond b (get_or (set words w x) (d * 65 + i) 0) 0 ≡ cond b (get_or words (d * 65 + i) 0) 0
@@ -63,7 +63,7 @@ get_or-end xs x i h = grind (arith, common_steps)
 length-snoc : (xs : List ℕ) (x : ℕ) → length (xs ++ x ∷ []) ≡ length xs + 1
 length-snoc xs x = grind (arith, common_steps)
 
-stands_cases : (ws : List ℕ) (x j : ℕ) (f : Row) → Stands ws (length ws) j f → (i : ℕ) → i < length ws + 1 → Dec (i ≡ length ws)
+stands_cases : (ws : List ℕ) (x j : ℕ) (f : Row) → AreIn ws (length ws) j f → (i : ℕ) → i < length ws + 1 → Dec (i ≡ length ws)
     → put (j + length ws) x f (j + i) ≡ get_or (ws ++ x ∷ []) i 0
 stands_cases ws x j f s i h (yes e) = put_here (j + length ws) x f (j + i) (omega arith) ∙ sym (get_or-end ws x i e)
 stands_cases ws x j f s i h (no n) =
@@ -72,11 +72,11 @@ stands_cases ws x j f s i h (no n) =
     put_else (j + length ws) x f (j + i) ne ∙ s i l ∙ sym (get_or-front ws (x ∷ []) i l)
 
 -- one more word is there
-pub stands_more : (ws : List ℕ) (x j : ℕ) (f : Row) → Stands ws (length ws) j f → Stands (ws ++ x ∷ []) (length (ws ++ x ∷ [])) j (put (j + length ws) x f)
+pub stands_more : (ws : List ℕ) (x j : ℕ) (f : Row) → AreIn ws (length ws) j f → AreIn (ws ++ x ∷ []) (length (ws ++ x ∷ [])) j (put (j + length ws) x f)
 stands_more ws x j f s i h = let e = length-snoc ws x in stands_cases ws x j f s i (omega arith) (ℕ_discrete i (length ws))
 
 -- a write elsewhere
-pub stands_else : (ws : List ℕ) (n j : ℕ) (f : Row) (k x : ℕ) → k < j → Stands ws n j f → Stands ws n j (put k x f)
+pub stands_else : (ws : List ℕ) (n j : ℕ) (f : Row) (k x : ℕ) → k < j → AreIn ws n j f → AreIn ws n j (put k x f)
 stands_else ws n j f k x h s i l = let ne : j + i ≢ k = omega arith in put_else k x f (j + i) ne ∙ s i l
 
 -- a write to no word of the channel

@@ -2,7 +2,7 @@
 use Rattle.std.proofs.Common.{◌≡◌, ℕ, Bool, true, List, length-set, set, get_or, sym, subst, refl, ap, ◌∙◌}
 use Rattle.std.proofs.lemmas.List.{set-get_or}
 use Rattle.sb_actor.specs.Moves.{is_clean, Deed, met, wrote, StrayMay, IsUnclean, stray_store, stray_exchange, stray_load, stray_wait}
-use Rattle.sb_actor.specs.Rule.{Row, row, sees, Chan}
+use Rattle.sb_actor.specs.Rule.{Row, row, sees, ChannelInvariant}
 use Rattle.sb_actor.specs.Laws.{StrayKeeps, words_after}
 use Rattle.sb_actor.proofs.Rows.{row_at_else}
 use Rattle.sb_actor.proofs.Parts.{off}
@@ -28,9 +28,9 @@ harmless clean words w d may = absurd may
 
 pub stray_keeps : StrayKeeps
 stray_keeps clean words worker threads w d r may = record {
-  mids = r.mids;
+  owners = r.owners;
   sized = length-set words w (wrote d (met d (get_or words w 0)) (get_or words w 0)) ∙ r.sized;
-  chans = λ c cl. subst (λ (f : Row). Chan (r.mids c) (sees c worker) f) (sym (harmless clean words w d may c cl)) (r.chans c cl);
+  each_channel = λ c cl. subst (λ (f : Row). ChannelInvariant (r.owners c) (sees c worker) f) (sym (harmless clean words w d may c cl)) (r.each_channel c cl);
   lasts = r.lasts;
   fits_worker = r.fits_worker;
   fits = r.fits;

@@ -12,9 +12,9 @@ thread_keeps clean words worker threads i w v d r at_i may =
     let its_clean : v.clean ≡ clean = (r.fits i v at_i).its_clean in
     subst
     (λ (cl : List Bool).
-    get_elem? threads i ≡ some (tv v.number cl v.place v.had) → ThreadMay (tv v.number cl v.place v.had) v.place w d
-    → Rule clean (set words w (wrote d (met d (get_or words w 0)) (get_or words w 0))) worker (set threads i (thread_view (tv v.number cl v.place v.had) d (get_or words w 0))))
+    get_elem? threads i ≡ some (tv v.number cl v.place v.ended_calls) → ThreadMay (tv v.number cl v.place v.ended_calls) v.place w d
+    → Rule clean (set words w (wrote d (met d (get_or words w 0)) (get_or words w 0))) worker (set threads i (thread_view (tv v.number cl v.place v.ended_calls) d (get_or words w 0))))
     (sym its_clean)
-    (λ e m. thread_steps clean words worker threads r i w v.number v.had v.place d e m)
+    (λ e m. thread_steps clean words worker threads r i w v.number v.ended_calls v.place d e m)
     at_i
     may

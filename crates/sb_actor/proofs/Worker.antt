@@ -44,15 +44,15 @@ clean_inside clean c cl = by_order (dec_le (length clean) c)
 
 pub starts : Starts
 starts clean words threads sized opened first = record {
-  mids = λ c. idle;
+  owners = λ c. idle;
   sized = sized;
-  chans = λ c cl. (state c cl, sees_look (first_worker clean) c refl);
+  each_channel = λ c cl. (state c cl, sees_look (first_worker clean) c refl);
   lasts = λ c cl. tt;
   fits_worker = record {
     its_clean = refl;
-    owners = λ c k cl o. absurd (some-ne-none k (sym o));
-    bearers = λ k l. refl;
-    borne = λ n x e cl. absurd (some-ne-none x (sym e));
+    owners_there = λ c k cl o. absurd (some-ne-none k (sym o));
+    no_strangers = λ k l. refl;
+    of_threads = λ n x e cl. absurd (some-ne-none x (sym e));
     replied = λ n x e. absurd (some-ne-none x (sym e));
     replies = tt;
   };
@@ -74,5 +74,5 @@ starts clean words threads sized opened first = record {
       only = λ c cl o. absurd (some-ne-none i (sym o));
       calls = refl;
       all_abandoned = λ _ c l. absurd (omega arith);
-      bears = tt;
+      handed_is_own = tt;
     }

@@ -10,38 +10,38 @@ use native.Mathlib.Decide.{ℕ_discrete}
 use lib.ListN.{get_elem?}
 use Rattle.sb_block.specs.Copies.{Copied, copied, is_end, whole, mark_of}
 use Rattle.sb_block.specs.Packing.{offset_of}
-use Rattle.sb_actor.specs.Views.{Served, Had, ThreadPlace, Try, Fill, Wait, Fetch, ThreadView, WorkerPlace, Look, Count, End, Copy, Whole, Reply, WorkerView}
+use Rattle.sb_actor.specs.Views.{Served, EndedCall, ThreadPlace, Try, Fill, Wait, Fetch, ThreadView, WorkerPlace, Look, Count, End, Copy, Whole, Reply, WorkerView}
 use Rattle.sb_actor.specs.Moves.{at, is_clean, next, IsBlock, Deed, met, wrote, counted, ended_at, copied_to, worker_result, WorkerMay, look, load_count, load_end, copy, answer, acknowledge}
 use Rattle.sb_actor.specs.Ranges.{IsReplyTo}
-use Rattle.sb_actor.specs.Rule.{Mid, idle, filling, ready, acked, owner, Row, row, sees, Stands, Chan, Reads, is_of, calls_of, as_served, place, served_at, waiting, Agrees, Replies, is_on, Last, FitsThread, FitsWorker, Rule}
+use Rattle.sb_actor.specs.Rule.{Owner, idle, filling, sent, has_reply, owner_of, Row, row, sees, AreIn, ChannelInvariant, Reads, is_of, calls_of, as_served, place, served_at, waiting, Agrees, Replies, is_on, Last, FitsThread, FitsWorker, Rule}
 use Rattle.sb_actor.proofs.Lists.{at_snoc, take_snoc}
 use Rattle.sb_actor.proofs.Rows.{put, put_here, put_else, upd, upd_here, upd_else, row_else, row_here, row_at, stands_more, stands_else}
 use Rattle.sb_actor.proofs.Parts.{off, thread_else}
 use Rattle.sb_actor.proofs.ThreadSteps.{was_true, was_false}
 
 -- who is at a clean channel in state 3, or at which the worker is engaged
-pub record AtReady (m : Mid) (p : WorkerPlace) (f : Row) : Type 0 where
+pub record AtReady (m : Owner) (p : WorkerPlace) (f : Row) : Type 0 where
   pub number : ℕ
   pub block : List ℕ
-  pub is : m ≡ ready number block
+  pub is : m ≡ sent number block
   pub state : f 0 ≡ 3
   pub whole_block : IsBlock number block
   pub reads : Reads block f p
 
-state_three : (m : Mid) (p : WorkerPlace) (f : Row) → Chan m p f → f 0 ≡ 3 → AtReady m p f
+state_three : (m : Owner) (p : WorkerPlace) (f : Row) → ChannelInvariant m p f → f 0 ≡ 3 → AtReady m p f
 state_three idle p f h e = absurd (omega arith)
 state_three (filling k ws) p f h e = absurd (omega arith)
-state_three (ready k b) p f h e = record { number = k; block = b; is = refl; state = h.0; whole_block = h.1; reads = h.2 }
-state_three (acked k b r) p f h e = absurd (omega arith)
+state_three (sent k b) p f h e = record { number = k; block = b; is = refl; state = h.0; whole_block = h.1; reads = h.2 }
+state_three (has_reply k b r) p f h e = absurd (omega arith)
 
-engaged : (m : Mid) (p : WorkerPlace) (f : Row) → Chan m p f → p ≢ Look → AtReady m p f
+engaged : (m : Owner) (p : WorkerPlace) (f : Row) → ChannelInvariant m p f → p ≢ Look → AtReady m p f
 engaged idle p f h e = absurd (e h.1)
 engaged (filling k ws) p f h e = absurd (e h.1)
-engaged (ready k b) p f h e = record { number = k; block = b; is = refl; state = h.0; whole_block = h.1; reads = h.2 }
-engaged (acked k b r) p f h e = absurd (e h.2)
+engaged (sent k b) p f h e = record { number = k; block = b; is = refl; state = h.0; whole_block = h.1; reads = h.2 }
+engaged (has_reply k b r) p f h e = absurd (e h.2)
 
-at_ready : (m : Mid) (p : WorkerPlace) (f : Row) (k : ℕ) (b : List ℕ) → m ≡ ready k b → f 0 ≡ 3 → IsBlock k b → Reads b f p → Chan m p f
-at_ready m p f k b is three whole reads = subst (λ y. Chan y p f) (sym is) (three, whole, reads)
+at_ready : (m : Owner) (p : WorkerPlace) (f : Row) (k : ℕ) (b : List ℕ) → m ≡ sent k b → f 0 ≡ 3 → IsBlock k b → Reads b f p → ChannelInvariant m p f
+at_ready m p f k b is three whole reads = subst (λ y. ChannelInvariant y p f) (sym is) (three, whole, reads)
 
 -- a word that is written as it was
 put_same : (j x : ℕ) (f : Row) → f j ≡ x → put j x f ≡ f
@@ -71,7 +71,7 @@ map_snoc : {A B : Type 0} (f : A → B) (xs : List A) (x : A) → map f (xs ++ x
 map_snoc f [] x = refl
 map_snoc f (y ∷ xs) x = ap (λ l. f y ∷ l) (map_snoc f xs x)
 
-abbrev call : ℕ → List ℕ → List ℕ → Had
+abbrev call : ℕ → List ℕ → List ℕ → EndedCall
 call c b r = record { channel = c; block = b; reply = r }
 
 abbrev serve : ℕ → Copied → List ℕ → Served
@@ -89,19 +89,19 @@ module _ (clean : List Bool) (words : List ℕ) (threads : List ThreadView) (w :
   n = length threads
 
   -- a step on a word of channel c, at which the worker is
-  worker_move : (c j : ℕ) (v v' : WorkerView) (d : Deed) (b : Bool) (r : Rule clean words v threads) (mids : ℕ → Mid) → c < length clean → w ≡ c * 65 + j → j < 65
-      → ((x : ℕ) → x ≢ c → mids x ≡ r.mids x)
+  worker_move : (c j : ℕ) (v v' : WorkerView) (d : Deed) (b : Bool) (r : Rule clean words v threads) (owners : ℕ → Owner) → c < length clean → w ≡ c * 65 + j → j < 65
+      → ((x : ℕ) → x ≢ c → owners x ≡ r.owners x)
       → ((x : ℕ) → x ≢ c → sees x v' ≡ sees x v)
-      → (is_clean clean c ≡ true → Chan (mids c) (sees c v') (put j (wrote d b (get_or words w 0)) (row words c)))
-      → ((x : ℕ) → is_clean clean x ≡ true → Last v'.served x (mids x))
-      → FitsWorker clean mids n v'
-      → ((x : ℕ) (u : ThreadView) → FitsThread clean r.mids v.served x u → FitsThread clean mids v'.served x u)
+      → (is_clean clean c ≡ true → ChannelInvariant (owners c) (sees c v') (put j (wrote d b (get_or words w 0)) (row words c)))
+      → ((x : ℕ) → is_clean clean x ≡ true → Last v'.served x (owners x))
+      → FitsWorker clean owners n v'
+      → ((x : ℕ) (u : ThreadView) → FitsThread clean r.owners v.served x u → FitsThread clean owners v'.served x u)
       → Rule clean (set words w (wrote d b (get_or words w 0))) v' threads
-  worker_move c j v v' d b r mids lc is lj same away chan lasts fits each =
+  worker_move c j v v' d b r owners lc is lj same away chan lasts fits each =
       record {
-        mids = mids;
+        owners = owners;
         sized = length-set words w (wrote d b (get_or words w 0)) ∙ r.sized;
-        chans = λ x cl. chan_at x cl (ℕ_discrete x c);
+        each_channel = λ x cl. chan_at x cl (ℕ_discrete x c);
         lasts = lasts;
         fits_worker = fits;
         fits = λ x u e. each x u (r.fits x u e);
@@ -110,12 +110,12 @@ module _ (clean : List Bool) (words : List ℕ) (threads : List ThreadView) (w :
       inside : w < length words
       inside = let z = r.sized in omega arith
 
-      chan_at : (x : ℕ) → is_clean clean x ≡ true → Dec (x ≡ c) → Chan (mids x) (sees x v') (row (set words w (wrote d b (get_or words w 0))) x)
+      chan_at : (x : ℕ) → is_clean clean x ≡ true → Dec (x ≡ c) → ChannelInvariant (owners x) (sees x v') (row (set words w (wrote d b (get_or words w 0))) x)
       chan_at x cl (yes e) =
-          let here : Chan (mids c) (sees c v') (put j (wrote d b (get_or words w 0)) (row words c)) = chan (subst (λ y. is_clean clean y ≡ true) e cl) in
-          let there : Chan (mids c) (sees c v') (row (set words w (wrote d b (get_or words w 0))) c) = subst (Chan (mids c) (sees c v')) (sym (row_here words w (wrote d b (get_or words w 0)) c j is lj inside)) here in
-          subst (λ y. Chan (mids y) (sees y v') (row (set words w (wrote d b (get_or words w 0))) y)) (sym e) there
-      chan_at x cl (no ne) = subst (λ (y : Mid × WorkerPlace × Row). Chan y.0 y.1 y.2) (λ q. (sym (same x ne) q, sym (away x ne) q, sym (row_else words w (wrote d b (get_or words w 0)) c x j is lj ne) q)) (r.chans x cl)
+          let here : ChannelInvariant (owners c) (sees c v') (put j (wrote d b (get_or words w 0)) (row words c)) = chan (subst (λ y. is_clean clean y ≡ true) e cl) in
+          let there : ChannelInvariant (owners c) (sees c v') (row (set words w (wrote d b (get_or words w 0))) c) = subst (ChannelInvariant (owners c) (sees c v')) (sym (row_here words w (wrote d b (get_or words w 0)) c j is lj inside)) here in
+          subst (λ y. ChannelInvariant (owners y) (sees y v') (row (set words w (wrote d b (get_or words w 0))) y)) (sym e) there
+      chan_at x cl (no ne) = subst (λ (y : Owner × WorkerPlace × Row). ChannelInvariant y.0 y.1 y.2) (λ q. (sym (same x ne) q, sym (away x ne) q, sym (row_else words w (wrote d b (get_or words w 0)) c x j is lj ne) q)) (r.each_channel x cl)
 
   module _ (c : ℕ) (sv : List Served) (lc : c < length clean) where
     abbrev V : WorkerPlace → WorkerView
@@ -130,45 +130,45 @@ module _ (clean : List Bool) (words : List ℕ) (threads : List ThreadView) (w :
 
     plain : (j : ℕ) (p p' : WorkerPlace) (c' : ℕ) (d : Deed) (b : Bool) (r : Rule clean words (V p) threads) → w ≡ c * 65 + j → j < 65
         → (c' ≡ c) ⊎ ((p ≡ Look) × (p' ≡ Look)) → Replies p'
-        → (is_clean clean c ≡ true → Chan (r.mids c) (sees c (U c' p')) (put j (wrote d b (get_or words w 0)) (row words c)))
+        → (is_clean clean c ≡ true → ChannelInvariant (r.owners c) (sees c (U c' p')) (put j (wrote d b (get_or words w 0)) (row words c)))
         → Rule clean (set words w (wrote d b (get_or words w 0))) (U c' p') threads
     plain j p p' c' d b r is lj where_to rep chan =
-        worker_move c j (V p) (U c' p') d b r r.mids lc is lj (λ x ne. refl) (λ x ne. elsewhere x ne where_to) chan
-        (λ x cl. subst (λ l. Last l x (r.mids x)) (sym (append-nil sv)) (r.lasts x cl))
-        (subst (λ l. FitsWorker clean r.mids n (wv clean c' p' l)) (sym (append-nil sv))
+        worker_move c j (V p) (U c' p') d b r r.owners lc is lj (λ x ne. refl) (λ x ne. elsewhere x ne where_to) chan
+        (λ x cl. subst (λ l. Last l x (r.owners x)) (sym (append-nil sv)) (r.lasts x cl))
+        (subst (λ l. FitsWorker clean r.owners n (wv clean c' p' l)) (sym (append-nil sv))
         record {
           its_clean = r.fits_worker.its_clean;
-          owners = r.fits_worker.owners;
-          bearers = r.fits_worker.bearers;
-          borne = r.fits_worker.borne;
+          owners_there = r.fits_worker.owners_there;
+          no_strangers = r.fits_worker.no_strangers;
+          of_threads = r.fits_worker.of_threads;
           replied = r.fits_worker.replied;
           replies = rep;
         })
-        (λ x u f. subst (λ l. FitsThread clean r.mids l x u) (sym (append-nil sv)) f)
+        (λ x u f. subst (λ l. FitsThread clean r.owners l x u) (sym (append-nil sv)) f)
       where
         elsewhere : (x : ℕ) → x ≢ c → (c' ≡ c) ⊎ ((p ≡ Look) × (p' ≡ Look)) → sees x (U c' p') ≡ sees x (V p)
         elsewhere x ne (inl e) = sees_else (U c' p') x (λ s. ne (s ∙ e)) ∙ sym (sees_else (V p) x ne)
         elsewhere x ne (inr e) = sees_look (U c' p') x e.1 ∙ sym (sees_look (V p) x e.0)
 
     -- the channel at which the worker is engaged
-    ready_here : (p : WorkerPlace) (r : Rule clean words (V p) threads) → p ≢ Look → is_clean clean c ≡ true → AtReady (r.mids c) p (row words c)
-    ready_here p r e cl = subst (λ y. AtReady (r.mids c) y (row words c)) (sees_here (V p) c refl) (engaged (r.mids c) (sees c (V p)) (row words c) (r.chans c cl) (λ s. e (sym (sees_here (V p) c refl) ∙ s)))
+    ready_here : (p : WorkerPlace) (r : Rule clean words (V p) threads) → p ≢ Look → is_clean clean c ≡ true → AtReady (r.owners c) p (row words c)
+    ready_here p r e cl = subst (λ y. AtReady (r.owners c) y (row words c)) (sees_here (V p) c refl) (engaged (r.owners c) (sees c (V p)) (row words c) (r.each_channel c cl) (λ s. e (sym (sees_here (V p) c refl) ∙ s)))
 
     -- a load at the channel: the row stays, and the worker is at another place
-    still : (j : ℕ) (p' : WorkerPlace) (d : Deed) (k : Mid) → w ≡ c * 65 + j → j < 65 → Chan k p' (row words c) → Chan k (sees c (U c p')) (put j (get_or words w 0) (row words c))
+    still : (j : ℕ) (p' : WorkerPlace) (d : Deed) (k : Owner) → w ≡ c * 65 + j → j < 65 → ChannelInvariant k p' (row words c) → ChannelInvariant k (sees c (U c p')) (put j (get_or words w 0) (row words c))
     still j p' d k is lj h =
-        subst (λ (y : WorkerPlace × Row). Chan k y.0 y.1) (λ z. (sym (sees_here (U c p') c refl) z, sym (put_same j (get_or words w 0) (row words c) (row_at words w c j is lj)) z)) h
+        subst (λ (y : WorkerPlace × Row). ChannelInvariant k y.0 y.1) (λ z. (sym (sees_here (U c p') c refl) z, sym (put_same j (get_or words w 0) (row words c) (row_at words w c j is lj)) z)) h
 
     look_step : (r : Rule clean words (V Look) threads) → w ≡ at c 0 → (b : Bool) → met look (get_or words w 0) ≡ b → After Look look b
     look_step r is true e =
         let three : row words c 0 ≡ 3 = row_at words w c 0 is (omega arith) ∙ was_true (get_or words w 0) 3 e in
         plain 0 Look Count c look true r is (omega arith) (inl refl) tt
         (λ cl.
-        let q : AtReady (r.mids c) Look (row words c) = subst (λ y. AtReady (r.mids c) y (row words c)) (sees_look (V Look) c refl) (state_three (r.mids c) (sees c (V Look)) (row words c) (r.chans c cl) three) in
-        still 0 Count look (r.mids c) is (omega arith) (at_ready (r.mids c) Count (row words c) q.number q.block q.is three q.whole_block q.reads))
+        let q : AtReady (r.owners c) Look (row words c) = subst (λ y. AtReady (r.owners c) y (row words c)) (sees_look (V Look) c refl) (state_three (r.owners c) (sees c (V Look)) (row words c) (r.each_channel c cl) three) in
+        still 0 Count look (r.owners c) is (omega arith) (at_ready (r.owners c) Count (row words c) q.number q.block q.is three q.whole_block q.reads))
     look_step r is false e =
         plain 0 Look Look (next clean c) look false r is (omega arith) (inr (refl, refl)) tt
-        (λ cl. subst (λ (y : WorkerPlace × Row). Chan (r.mids c) y.0 y.1) (λ z. ((sees_look (V Look) c refl ∙ sym (sees_look (U (next clean c) Look) c refl)) z, sym (put_same 0 (get_or words w 0) (row words c) (row_at words w c 0 is (omega arith))) z)) (r.chans c cl))
+        (λ cl. subst (λ (y : WorkerPlace × Row). ChannelInvariant (r.owners c) y.0 y.1) (λ z. ((sees_look (V Look) c refl ∙ sym (sees_look (U (next clean c) Look) c refl)) z, sym (put_same 0 (get_or words w 0) (row words c) (row_at words w c 0 is (omega arith))) z)) (r.each_channel c cl))
 
     count_step : (r : Rule clean words (V Count) threads) → w ≡ at c 3 → After Count load_count true
     count_step r is =
@@ -177,16 +177,16 @@ module _ (clean : List Bool) (words : List ℕ) (threads : List ThreadView) (w :
         let q = ready_here Count r (λ s. cc) cl in
         let low = q.whole_block.low in
         let found : get_or words w 0 ≡ get_or q.block 2 0 = sym (row_at words w c 3 is (omega arith)) ∙ q.reads 2 (omega arith) in
-        still 3 (counted (get_or words w 0)) load_count (r.mids c) is (omega arith) (by_test q found (ltb 9 (get_or words w 0)) refl))
+        still 3 (counted (get_or words w 0)) load_count (r.owners c) is (omega arith) (by_test q found (ltb 9 (get_or words w 0)) refl))
       where
         quiet : (b : Bool) → Replies (cond b (Whole (copied (get_or words w 0) 0 [])) (End (get_or words w 0)))
         quiet true = tt
         quiet false = tt
 
-        by_test : (q : AtReady (r.mids c) Count (row words c)) → get_or words w 0 ≡ get_or q.block 2 0 → (b : Bool) → ltb 9 (get_or words w 0) ≡ b
-            → Chan (r.mids c) (cond b (Whole (copied (get_or words w 0) 0 [])) (End (get_or words w 0))) (row words c)
+        by_test : (q : AtReady (r.owners c) Count (row words c)) → get_or words w 0 ≡ get_or q.block 2 0 → (b : Bool) → ltb 9 (get_or words w 0) ≡ b
+            → ChannelInvariant (r.owners c) (cond b (Whole (copied (get_or words w 0) 0 [])) (End (get_or words w 0))) (row words c)
         by_test q found true e = let few = q.whole_block.few in absurd (grind (arith, nat_tests))
-        by_test q found false e = at_ready (r.mids c) (End (get_or words w 0)) (row words c) q.number q.block q.is q.state q.whole_block (q.reads, found)
+        by_test q found false e = at_ready (r.owners c) (End (get_or words w 0)) (row words c) q.number q.block q.is q.state q.whole_block (q.reads, found)
 
     end_step : (k : ℕ) (r : Rule clean words (V (End k)) threads) → w ≡ at c (16 + k) → k ≤ 9 → After (End k) load_end true
     end_step k r is few =
@@ -201,18 +201,18 @@ module _ (clean : List Bool) (words : List ℕ) (threads : List ThreadView) (w :
         let one : 1 + (15 + k) ≡ 16 + k = omega arith in
         let found : get_or words w 0 ≡ get_or q.block (15 + k) 0 = sym (row_at words w c (16 + k) is lj) ∙ ap (row words c) (sym one) ∙ stands in
         let end : offset_of (get_or words w 0) ≡ length q.block = ap offset_of (found ∙ ap (λ z. get_or q.block (15 + z) 0) same) ∙ q.whole_block.end in
-        still (16 + k) (ended_at k (offset_of (get_or words w 0))) load_end (r.mids c) is lj (by_test q same end (is_end k (offset_of (get_or words w 0))) refl))
+        still (16 + k) (ended_at k (offset_of (get_or words w 0))) load_end (r.owners c) is lj (by_test q same end (is_end k (offset_of (get_or words w 0))) refl))
       where
         quiet : (b : Bool) → Replies (cond b (Copy k (offset_of (get_or words w 0)) []) (Whole (copied k (offset_of (get_or words w 0)) [])))
         quiet true = tt
         quiet false = tt
 
-        by_test : (q : AtReady (r.mids c) (End k) (row words c)) → k ≡ get_or q.block 2 0 → offset_of (get_or words w 0) ≡ length q.block → (b : Bool) → is_end k (offset_of (get_or words w 0)) ≡ b
-            → Chan (r.mids c) (cond b (Copy k (offset_of (get_or words w 0)) []) (Whole (copied k (offset_of (get_or words w 0)) []))) (row words c)
+        by_test : (q : AtReady (r.owners c) (End k) (row words c)) → k ≡ get_or q.block 2 0 → offset_of (get_or words w 0) ≡ length q.block → (b : Bool) → is_end k (offset_of (get_or words w 0)) ≡ b
+            → ChannelInvariant (r.owners c) (cond b (Copy k (offset_of (get_or words w 0)) []) (Whole (copied k (offset_of (get_or words w 0)) []))) (row words c)
         by_test q same end true e =
             let low = q.whole_block.low in
             let some : 0 < offset_of (get_or words w 0) = subst (λ z. 0 < z) (sym end) (omega arith) in
-            at_ready (r.mids c) (Copy k (offset_of (get_or words w 0)) []) (row words c) q.number q.block q.is q.state q.whole_block (q.reads.0, same, end, some, refl)
+            at_ready (r.owners c) (Copy k (offset_of (get_or words w 0)) []) (row words c) q.number q.block q.is q.state q.whole_block (q.reads.0, same, end, some, refl)
         by_test q same end false e =
             let low = q.whole_block.low in
             let high = q.whole_block.high in
@@ -233,31 +233,31 @@ module _ (clean : List Bool) (words : List ℕ) (threads : List ThreadView) (w :
         let longer : length (ws ++ get_or words w 0 ∷ []) ≡ length ws + 1 = grind (arith, common_steps) in
         let both : ws ++ get_or words w 0 ∷ [] ≡ take (length ws + 1) q.block = ap (λ l. l ++ get_or words w 0 ∷ []) rd.4 ∙ take_snoc q.block (length ws) (get_or words w 0) (omega arith) found in
         let front : ws ++ get_or words w 0 ∷ [] ≡ take (length (ws ++ get_or words w 0 ∷ [])) q.block = both ∙ ap (λ z. take z q.block) (sym longer) in
-        still (1 + length ws) (copied_to k e (ws ++ get_or words w 0 ∷ [])) copy (r.mids c) is lj
+        still (1 + length ws) (copied_to k e (ws ++ get_or words w 0 ∷ [])) copy (r.owners c) is lj
         (by_test q (ws ++ get_or words w 0 ∷ []) rd.1 size front (omega arith) (eqb (length (ws ++ get_or words w 0 ∷ [])) e) refl))
       where
         quiet : (b : Bool) → Replies (cond b (Whole (copied k e (ws ++ get_or words w 0 ∷ []))) (Copy k e (ws ++ get_or words w 0 ∷ [])))
         quiet true = tt
         quiet false = tt
 
-        by_test : (q : AtReady (r.mids c) (Copy k e ws) (row words c)) (us : List ℕ) → k ≡ get_or q.block 2 0 → e ≡ length q.block → us ≡ take (length us) q.block → length us ≤ e → (b : Bool) → eqb (length us) e ≡ b
-            → Chan (r.mids c) (cond b (Whole (copied k e us)) (Copy k e us)) (row words c)
+        by_test : (q : AtReady (r.owners c) (Copy k e ws) (row words c)) (us : List ℕ) → k ≡ get_or q.block 2 0 → e ≡ length q.block → us ≡ take (length us) q.block → length us ≤ e → (b : Bool) → eqb (length us) e ≡ b
+            → ChannelInvariant (r.owners c) (cond b (Whole (copied k e us)) (Copy k e us)) (row words c)
         by_test q us same size front l true t =
             let full : length us ≡ length q.block = was_true (length us) e t ∙ size in
             let is_block : us ≡ q.block = whole_take us q.block (length us) front full in
             let all : copied k e us ≡ whole q.block = (λ z. copied (same z) (size z) (is_block z)) in
-            at_ready (r.mids c) (Whole (copied k e us)) (row words c) q.number q.block q.is q.state q.whole_block (q.reads.0, all)
+            at_ready (r.owners c) (Whole (copied k e us)) (row words c) q.number q.block q.is q.state q.whole_block (q.reads.0, all)
         by_test q us same size front l false t =
             let short : length us ≢ e = was_false (length us) e t in
-            at_ready (r.mids c) (Copy k e us) (row words c) q.number q.block q.is q.state q.whole_block (q.reads.0, same, size, omega arith, front)
+            at_ready (r.owners c) (Copy k e us) (row words c) q.number q.block q.is q.state q.whole_block (q.reads.0, same, size, omega arith, front)
 
     first_answer : (x : ℕ) (t : Copied) (r : Rule clean words (V (Whole t)) threads) → w ≡ at c 4 → x ≡ mark_of t → After (Whole t) (answer x) true
     first_answer x t r is mark =
         plain 4 (Whole t) (Reply t (x ∷ [])) c (answer x) true r is (omega arith) (inl refl) (omega arith, omega arith, mark)
         (λ cl.
         let q = ready_here (Whole t) r (λ s. cc) cl in
-        subst (λ y. Chan (r.mids c) y (put 4 x (row words c))) (sym (sees_here (U c (Reply t (x ∷ []))) c refl))
-        (at_ready (r.mids c) (Reply t (x ∷ [])) (put 4 x (row words c)) q.number q.block q.is q.state q.whole_block (q.reads.1, omega arith, omega arith, stands_more [] x 4 (row words c) (λ z l. absurd (omega arith)), mark)))
+        subst (λ y. ChannelInvariant (r.owners c) y (put 4 x (row words c))) (sym (sees_here (U c (Reply t (x ∷ []))) c refl))
+        (at_ready (r.owners c) (Reply t (x ∷ [])) (put 4 x (row words c)) q.number q.block q.is q.state q.whole_block (q.reads.1, omega arith, omega arith, stands_more [] x 4 (row words c) (λ z l. absurd (omega arith)), mark)))
 
     next_answer : (x : ℕ) (t : Copied) (a : List ℕ) (r : Rule clean words (V (Reply t a)) threads) → w ≡ at c (4 + length a) → length a < 12 → After (Reply t a) (answer x) true
     next_answer x t a r is la =
@@ -271,8 +271,8 @@ module _ (clean : List Bool) (words : List ℕ) (threads : List ThreadView) (w :
         (λ cl.
         let q = ready_here (Reply t a) r (λ s. cc) cl in
         let rd = q.reads in
-        subst (λ y. Chan (r.mids c) y (put (4 + length a) x (row words c))) (sym (sees_here (U c (Reply t (a ++ x ∷ []))) c refl))
-        (at_ready (r.mids c) (Reply t (a ++ x ∷ [])) (put (4 + length a) x (row words c)) q.number q.block q.is (put_else (4 + length a) x (row words c) 0 ne ∙ q.state) q.whole_block
+        subst (λ y. ChannelInvariant (r.owners c) y (put (4 + length a) x (row words c))) (sym (sees_here (U c (Reply t (a ++ x ∷ []))) c refl))
+        (at_ready (r.owners c) (Reply t (a ++ x ∷ [])) (put (4 + length a) x (row words c)) q.number q.block q.is (put_else (4 + length a) x (row words c) 0 ne ∙ q.state) q.whole_block
         (rd.0, omega arith, omega arith, stands_more a x 4 (row words c) rd.3, front ∙ rd.4)))
 
     -- the call that is served at the acknowledgement
@@ -283,7 +283,7 @@ module _ (clean : List Bool) (words : List ℕ) (threads : List ThreadView) (w :
       abbrev W : Bool → WorkerView
       W b = worker_result (V (Reply t a)) acknowledge b (get_or words w 0)
 
-      acked_agrees : (k : ℕ) (b : List ℕ) (p : ThreadPlace) → Agrees k p (ready k b) → Agrees k p (acked k b a)
+      acked_agrees : (k : ℕ) (b : List ℕ) (p : ThreadPlace) → Agrees k p (sent k b) → Agrees k p (has_reply k b a)
       acked_agrees k b (Try x f) g = tt
       acked_agrees k b (Fill x ws) g = absurd (cc)
       acked_agrees k b (Wait x b') (inl g) = inr (a, cc)
@@ -311,35 +311,35 @@ module _ (clean : List Bool) (words : List ℕ) (threads : List ThreadView) (w :
           (λ (o : (z ≡ length sv) × (serve c t a ≡ x)). subst (λ (y : Served). IsReplyTo y.taken y.reply) o.1 record { size = la; mark = r.fits_worker.replies.2 }) (at_snoc sv (serve c t a) x z e)
 
       borne_at : (is_clean clean c ≡ true → (k : ℕ) × (k < n) × (mark_of t / 65536 ≡ k + 1)) → (z : ℕ) (x : Served) → get_elem? served z ≡ some x → is_clean clean x.channel ≡ true → (k : ℕ) × (k < n) × (mark_of x.taken / 65536 ≡ k + 1)
-      borne_at mine z x e cl = ⊎_elim (λ (o : get_elem? sv z ≡ some x). r.fits_worker.borne z x o cl)
+      borne_at mine z x e cl = ⊎_elim (λ (o : get_elem? sv z ≡ some x). r.fits_worker.of_threads z x o cl)
           (λ (o : (z ≡ length sv) × (serve c t a ≡ x)). subst (λ (y : Served). is_clean clean y.channel ≡ true → (k : ℕ) × (k < n) × (mark_of y.taken / 65536 ≡ k + 1)) o.1 mine cl) (at_snoc sv (serve c t a) x z e)
 
       -- what was served last on another channel, and on this one
-      last_else : (x : ℕ) (k : Mid) → x ≢ c → Last sv x k → Last served x k
+      last_else : (x : ℕ) (k : Owner) → x ≢ c → Last sv x k → Last served x k
       last_else x idle ne h = tt
       last_else x (filling k ws) ne h = tt
-      last_else x (ready k b) ne h = tt
-      last_else x (acked k b g) ne h = (h.0, filter-append (is_on x) sv (serve c t a ∷ []) ∙ ap (λ z. filter (is_on x) sv ++ cond z (serve c t a ∷ []) []) (ne_eqb c x (λ s. ne (sym s))) ∙ append-nil (filter (is_on x) sv) ∙ h.1)
+      last_else x (sent k b) ne h = tt
+      last_else x (has_reply k b g) ne h = (h.0, filter-append (is_on x) sv (serve c t a ∷ []) ∙ ap (λ z. filter (is_on x) sv ++ cond z (serve c t a ∷ []) []) (ne_eqb c x (λ s. ne (sym s))) ∙ append-nil (filter (is_on x) sv) ∙ h.1)
 
-      last_here : (k : ℕ) (b : List ℕ) → serve c t a ≡ as_served (call c b a) → Last served c (acked k b a)
+      last_here : (k : ℕ) (b : List ℕ) → serve c t a ≡ as_served (call c b a) → Last served c (has_reply k b a)
       last_here k b same = (filter (is_on c) sv, filter-append (is_on c) sv (serve c t a ∷ []) ∙ ap (λ z. filter (is_on c) sv ++ cond z (serve c t a ∷ []) []) (eq-eqb c c refl) ∙ ap (λ z. filter (is_on c) sv ++ z ∷ []) same)
 
       -- on a channel that is not clean
       ack_unclean : w ≡ at c 0 → length a ≡ 12 → is_clean clean c ≡ false → (b : Bool) → After (Reply t a) acknowledge b
       ack_unclean is la un b =
-          worker_move c 0 (V (Reply t a)) (W b) acknowledge b r r.mids lc is (omega arith) (λ x ne. refl)
+          worker_move c 0 (V (Reply t a)) (W b) acknowledge b r r.owners lc is (omega arith) (λ x ne. refl)
           (λ x ne. sees_look (W b) x refl ∙ sym (sees_else (V (Reply t a)) x ne))
           (λ cl. absurd (off (sym un ∙ cl)))
-          (λ x cl. last_else x (r.mids x) (λ s. off (sym un ∙ subst (λ y. is_clean clean y ≡ true) s cl)) (r.lasts x cl))
+          (λ x cl. last_else x (r.owners x) (λ s. off (sym un ∙ subst (λ y. is_clean clean y ≡ true) s cl)) (r.lasts x cl))
           record {
             its_clean = r.fits_worker.its_clean;
-            owners = r.fits_worker.owners;
-            bearers = λ k l. calls_stay k (unclean_call k un) ∙ r.fits_worker.bearers k l;
-            borne = borne_at (λ cl. absurd (off (sym un ∙ cl)));
+            owners_there = r.fits_worker.owners_there;
+            no_strangers = λ k l. calls_stay k (unclean_call k un) ∙ r.fits_worker.no_strangers k l;
+            of_threads = borne_at (λ cl. absurd (off (sym un ∙ cl)));
             replied = replied_at la;
             replies = tt;
           }
-          (λ x u f. record { its_clean = f.its_clean; number = f.number; agrees = f.agrees; only = f.only; calls = calls_stay u.number (unclean_call u.number un) ∙ f.calls; all_abandoned = f.all_abandoned; bears = f.bears })
+          (λ x u f. record { its_clean = f.its_clean; number = f.number; agrees = f.agrees; only = f.only; calls = calls_stay u.number (unclean_call u.number un) ∙ f.calls; all_abandoned = f.all_abandoned; handed_is_own = f.handed_is_own })
 
       ack_clean : w ≡ at c 0 → length a ≡ 12 → is_clean clean c ≡ true → (b : Bool) → met acknowledge (get_or words w 0) ≡ b → After (Reply t a) acknowledge b
       ack_clean is la cl false e =
@@ -349,69 +349,69 @@ module _ (clean : List Bool) (words : List ℕ) (threads : List ThreadView) (w :
       ack_clean is la cl true e =
           let q = ready_here (Reply t a) r (λ s. cc) cl in
           let rd = q.reads in
-          let k : Mid = acked q.number q.block a in
+          let k : Owner = has_reply q.number q.block a in
           let mark : mark_of t / 65536 ≡ q.number + 1 = ap (λ z. mark_of z / 65536) rd.0 ∙ q.whole_block.mark in
-          let mine : owner (r.mids c) ≡ some q.number = ap owner q.is in
-          let below : q.number < n = r.fits_worker.owners c q.number cl mine in
-          worker_move c 0 (V (Reply t a)) (W true) acknowledge true r (upd r.mids c k) lc is (omega arith)
-          (λ x ne. upd_else r.mids c k x ne)
+          let mine : owner_of (r.owners c) ≡ some q.number = ap owner_of q.is in
+          let below : q.number < n = r.fits_worker.owners_there c q.number cl mine in
+          worker_move c 0 (V (Reply t a)) (W true) acknowledge true r (upd r.owners c k) lc is (omega arith)
+          (λ x ne. upd_else r.owners c k x ne)
           (λ x ne. sees_look (W true) x refl ∙ sym (sees_else (V (Reply t a)) x ne))
-          (λ _. subst (λ y. Chan y (sees c (W true)) (put 0 4 (row words c))) (sym (upd_here r.mids c k c refl))
-          (refl, q.whole_block, sees_look (W true) c refl, record { size = la; mark = rd.4 ∙ ap mark_of rd.0 }, stands_else a 12 4 (row words c) 0 4 (omega arith) (subst (λ z. Stands a z 4 (row words c)) la rd.3)))
+          (λ _. subst (λ y. ChannelInvariant y (sees c (W true)) (put 0 4 (row words c))) (sym (upd_here r.owners c k c refl))
+          (refl, q.whole_block, sees_look (W true) c refl, record { size = la; mark = rd.4 ∙ ap mark_of rd.0 }, stands_else a 12 4 (row words c) 0 4 (omega arith) (subst (λ z. AreIn a z 4 (row words c)) la rd.3)))
           (λ x cx. last_at q x cx (ℕ_discrete x c))
           record {
             its_clean = r.fits_worker.its_clean;
-            owners = λ x z cx o. owner_at q x z cx o (ℕ_discrete x c);
-            bearers = λ z l. calls_stay z (not_mine q.number z cl mark (λ s. omega arith)) ∙ r.fits_worker.bearers z l;
-            borne = borne_at (λ _. (q.number, below, mark));
+            owners_there = λ x z cx o. owner_at q x z cx o (ℕ_discrete x c);
+            no_strangers = λ z l. calls_stay z (not_mine q.number z cl mark (λ s. omega arith)) ∙ r.fits_worker.no_strangers z l;
+            of_threads = borne_at (λ _. (q.number, below, mark));
             replied = replied_at la;
             replies = tt;
           }
           (λ x u f. thread_at q mark x u f (ℕ_discrete u.number q.number))
         where
-          owner_at : (q : AtReady (r.mids c) (Reply t a) (row words c)) (x z : ℕ) → is_clean clean x ≡ true → owner (upd r.mids c (acked q.number q.block a) x) ≡ some z → Dec (x ≡ c) → z < n
-          owner_at q x z cx o (yes s) = r.fits_worker.owners c z cl (ap owner q.is ∙ sym (ap owner (upd_here r.mids c (acked q.number q.block a) x s)) ∙ o)
-          owner_at q x z cx o (no ne) = r.fits_worker.owners x z cx (sym (ap owner (upd_else r.mids c (acked q.number q.block a) x ne)) ∙ o)
+          owner_at : (q : AtReady (r.owners c) (Reply t a) (row words c)) (x z : ℕ) → is_clean clean x ≡ true → owner_of (upd r.owners c (has_reply q.number q.block a) x) ≡ some z → Dec (x ≡ c) → z < n
+          owner_at q x z cx o (yes s) = r.fits_worker.owners_there c z cl (ap owner_of q.is ∙ sym (ap owner_of (upd_here r.owners c (has_reply q.number q.block a) x s)) ∙ o)
+          owner_at q x z cx o (no ne) = r.fits_worker.owners_there x z cx (sym (ap owner_of (upd_else r.owners c (has_reply q.number q.block a) x ne)) ∙ o)
 
-          last_at : (q : AtReady (r.mids c) (Reply t a) (row words c)) (x : ℕ) → is_clean clean x ≡ true → Dec (x ≡ c) → Last served x (upd r.mids c (acked q.number q.block a) x)
+          last_at : (q : AtReady (r.owners c) (Reply t a) (row words c)) (x : ℕ) → is_clean clean x ≡ true → Dec (x ≡ c) → Last served x (upd r.owners c (has_reply q.number q.block a) x)
           last_at q x cx (yes s) =
-              subst (λ y. Last served y (upd r.mids c (acked q.number q.block a) y)) (sym s)
-              (subst (Last served c) (sym (upd_here r.mids c (acked q.number q.block a) c refl)) (last_here q.number q.block (ap (λ z. serve c z a) q.reads.0)))
-          last_at q x cx (no ne) = subst (Last served x) (sym (upd_else r.mids c (acked q.number q.block a) x ne)) (last_else x (r.mids x) ne (r.lasts x cx))
+              subst (λ y. Last served y (upd r.owners c (has_reply q.number q.block a) y)) (sym s)
+              (subst (Last served c) (sym (upd_here r.owners c (has_reply q.number q.block a) c refl)) (last_here q.number q.block (ap (λ z. serve c z a) q.reads.0)))
+          last_at q x cx (no ne) = subst (Last served x) (sym (upd_else r.owners c (has_reply q.number q.block a) x ne)) (last_else x (r.owners x) ne (r.lasts x cx))
 
-          thread_at : (q : AtReady (r.mids c) (Reply t a) (row words c)) → mark_of t / 65536 ≡ q.number + 1 → (x : ℕ) (u : ThreadView) → FitsThread clean r.mids sv x u → Dec (u.number ≡ q.number)
-              → FitsThread clean (upd r.mids c (acked q.number q.block a)) served x u
+          thread_at : (q : AtReady (r.owners c) (Reply t a) (row words c)) → mark_of t / 65536 ≡ q.number + 1 → (x : ℕ) (u : ThreadView) → FitsThread clean r.owners sv x u → Dec (u.number ≡ q.number)
+              → FitsThread clean (upd r.owners c (has_reply q.number q.block a)) served x u
           thread_at q mark x u f (no ne) =
-              let k : Mid = acked q.number q.block a in
-              let g = thread_else clean r.mids sv q.number c k (λ _. inr (ap owner q.is)) (λ _. inr refl) x u ne f in
-              record { its_clean = g.its_clean; number = g.number; agrees = g.agrees; only = g.only; calls = calls_stay u.number (not_mine q.number u.number cl mark ne) ∙ g.calls; all_abandoned = g.all_abandoned; bears = g.bears }
+              let k : Owner = has_reply q.number q.block a in
+              let g = thread_else clean r.owners sv q.number c k (λ _. inr (ap owner_of q.is)) (λ _. inr refl) x u ne f in
+              record { its_clean = g.its_clean; number = g.number; agrees = g.agrees; only = g.only; calls = calls_stay u.number (not_mine q.number u.number cl mark ne) ∙ g.calls; all_abandoned = g.all_abandoned; handed_is_own = g.handed_is_own }
           thread_at q mark x u f (yes s) =
-              let k : Mid = acked q.number q.block a in
-              let here : place u.place ≡ some c = f.only c cl (ap owner q.is ∙ ap some (sym s)) in
-              let before : Agrees u.number u.place (ready u.number q.block) = subst (Agrees u.number u.place) (q.is ∙ ap (λ z. ready z q.block) (sym s)) (f.agrees c here cl) in
-              let after : Agrees u.number u.place (acked q.number q.block a) = subst (λ z. Agrees u.number u.place (acked z q.block a)) s (acked_agrees u.number q.block u.place before) in
-              let old_wait : waiting clean r.mids (some c) ≡ [] = ap (λ z. cond z (served_at c (r.mids c)) []) cl ∙ ap (served_at c) q.is in
-              let new_wait : waiting clean (upd r.mids c k) (some c) ≡ call c q.block a ∷ [] = ap (λ z. cond z (served_at c (upd r.mids c k c)) []) cl ∙ ap (served_at c) (upd_here r.mids c k c refl) in
+              let k : Owner = has_reply q.number q.block a in
+              let here : place u.place ≡ some c = f.only c cl (ap owner_of q.is ∙ ap some (sym s)) in
+              let before : Agrees u.number u.place (sent u.number q.block) = subst (Agrees u.number u.place) (q.is ∙ ap (λ z. sent z q.block) (sym s)) (f.agrees c here cl) in
+              let after : Agrees u.number u.place (has_reply q.number q.block a) = subst (λ z. Agrees u.number u.place (has_reply z q.block a)) s (acked_agrees u.number q.block u.place before) in
+              let old_wait : waiting clean r.owners (some c) ≡ [] = ap (λ z. cond z (served_at c (r.owners c)) []) cl ∙ ap (served_at c) q.is in
+              let new_wait : waiting clean (upd r.owners c k) (some c) ≡ call c q.block a ∷ [] = ap (λ z. cond z (served_at c (upd r.owners c k c)) []) cl ∙ ap (served_at c) (upd_here r.owners c k c refl) in
               let same : serve c t a ≡ as_served (call c q.block a) = ap (λ z. serve c z a) q.reads.0 in
               record {
                 its_clean = f.its_clean;
                 number = f.number;
-                agrees = λ y p cy. subst (λ z. Agrees u.number u.place (upd r.mids c k z)) (some-injective c y (sym here ∙ p)) (subst (Agrees u.number u.place) (sym (upd_here r.mids c k c refl)) after);
+                agrees = λ y p cy. subst (λ z. Agrees u.number u.place (upd r.owners c k z)) (some-injective c y (sym here ∙ p)) (subst (Agrees u.number u.place) (sym (upd_here r.owners c k c refl)) after);
                 only = λ y cy o. by_place q here f y cy o (ℕ_discrete y c);
                 calls =
                     calls_grow u.number (is_mine u.number cl (mark ∙ ap (λ z. z + 1) (sym s)))
-                    ∙ ap (λ l. l ++ serve c t a ∷ []) (f.calls ∙ ap (λ z. map as_served (u.had ++ waiting clean r.mids z)) here ∙ ap (λ l. map as_served (u.had ++ l)) old_wait ∙ ap (map as_served) (append-nil u.had))
-                    ∙ ap (λ (z : Served). map as_served u.had ++ z ∷ []) same
-                    ∙ sym (map_snoc as_served u.had (call c q.block a))
-                    ∙ ap (λ l. map as_served (u.had ++ l)) (sym new_wait)
-                    ∙ ap (λ z. map as_served (u.had ++ waiting clean (upd r.mids c k) z)) (sym here);
+                    ∙ ap (λ l. l ++ serve c t a ∷ []) (f.calls ∙ ap (λ z. map as_served (u.ended_calls ++ waiting clean r.owners z)) here ∙ ap (λ l. map as_served (u.ended_calls ++ l)) old_wait ∙ ap (map as_served) (append-nil u.ended_calls))
+                    ∙ ap (λ (z : Served). map as_served u.ended_calls ++ z ∷ []) same
+                    ∙ sym (map_snoc as_served u.ended_calls (call c q.block a))
+                    ∙ ap (λ l. map as_served (u.ended_calls ++ l)) (sym new_wait)
+                    ∙ ap (λ z. map as_served (u.ended_calls ++ waiting clean (upd r.owners c k) z)) (sym here);
                 all_abandoned = f.all_abandoned;
-                bears = f.bears;
+                handed_is_own = f.handed_is_own;
               }
             where
-              by_place : (q : AtReady (r.mids c) (Reply t a) (row words c)) → place u.place ≡ some c → FitsThread clean r.mids sv x u → (y : ℕ) → is_clean clean y ≡ true → owner (upd r.mids c (acked q.number q.block a) y) ≡ some u.number → Dec (y ≡ c) → place u.place ≡ some y
+              by_place : (q : AtReady (r.owners c) (Reply t a) (row words c)) → place u.place ≡ some c → FitsThread clean r.owners sv x u → (y : ℕ) → is_clean clean y ≡ true → owner_of (upd r.owners c (has_reply q.number q.block a) y) ≡ some u.number → Dec (y ≡ c) → place u.place ≡ some y
               by_place q here f y cy o (yes p) = here ∙ ap some (sym p)
-              by_place q here f y cy o (no ne) = f.only y cy (sym (ap owner (upd_else r.mids c (acked q.number q.block a) y ne)) ∙ o)
+              by_place q here f y cy o (no ne) = f.only y cy (sym (ap owner_of (upd_else r.owners c (has_reply q.number q.block a) y ne)) ∙ o)
 
       ack_step : w ≡ at c 0 → length a ≡ 12 → (b : Bool) → met acknowledge (get_or words w 0) ≡ b → After (Reply t a) acknowledge b
       ack_step is la b e = by_clean (is_clean clean c) refl

@@ -10,6 +10,8 @@ use Rattle.sb_actor.specs.Views.{ThreadView, Look, WorkerView}
 use Rattle.sb_actor.specs.Places.{mark_at}
 use Rattle.sb_actor.specs.Moves.{IsBlock, Deed, is_clean, met, wrote, thread_view, ThreadMay, worker_view, WorkerMay, StrayMay, no_call}
 use Rattle.sb_actor.specs.Rule.{Rule, place, row}
+use Rattle.sb_actor.specs.Acts.{free, busy, acknowledged}
+use Rattle.sb_statements.specs.Words.{words_of_channel}
 
 -- the words after a step on word w
 abbrev pub words_after : List ℕ → ℕ → Deed → List ℕ
@@ -37,11 +39,11 @@ abbrev pub first_worker : List Bool → WorkerView
 first_worker clean = record { clean = clean; channel = 0; place = Look; served = [] }
 
 abbrev pub first_thread : List Bool → ℕ → ThreadView
-first_thread clean number = record { number = number; clean = clean; place = no_call; had = [] }
+first_thread clean number = record { number = number; clean = clean; place = no_call; ended_calls = [] }
 
--- the opening value of a word: a state is 1, and all else 0
+-- the opening value of a word: a state is free, and all else 0
 abbrev pub opening_at : ℕ → ℕ
-opening_at w = if w % 65 == 0 then 1 else 0
+opening_at w = if w % words_of_channel == 0 then free else 0
 
 -- each word holds its opening value
 abbrev pub Opened : List ℕ → Type 0
@@ -53,7 +55,7 @@ AreFirst clean threads = (i : ℕ) → i < length threads → get_elem? threads 
 
 -- the opening words, with a worker and threads that made no step, meet the rule
 abbrev pub Starts : Type 0
-Starts = (clean : List Bool) (words : List ℕ) (threads : List ThreadView) → length words ≡ length clean * 65 → Opened words → AreFirst clean threads
+Starts = (clean : List Bool) (words : List ℕ) (threads : List ThreadView) → length words ≡ length clean * words_of_channel → Opened words → AreFirst clean threads
     → Rule clean words (first_worker clean) threads
 
 -- the block of a call that encodes, its strings made of units, is a whole block of the thread whose mark it has
@@ -69,9 +71,9 @@ pub record IsHeldByOne (threads : List ThreadView) (c : ℕ) : Type 0 where
   pub there : place view.place ≡ some c
   pub alone : (i : ℕ) (v : ThreadView) → get_elem? threads i ≡ some v → place v.place ≡ some c → i ≡ thread
 
--- at a clean channel whose state is 1 is no thread, and else its state is from 2 to 4, and exactly one thread of the target is there
+-- at a clean channel that is free is no thread; else it is busy, ready or acknowledged, and exactly one thread of the target is there
 abbrev pub ChannelsHaveOneThread : Type 0
 ChannelsHaveOneThread = (clean : List Bool) (words : List ℕ) (worker : WorkerView) (threads : List ThreadView) (c : ℕ) → Rule clean words worker threads
     → is_clean clean c ≡ true
-    → ((row words c 0 ≡ 1) × ((i : ℕ) (v : ThreadView) → get_elem? threads i ≡ some v → place v.place ≢ some c))
-    ⊎ ((2 ≤ row words c 0) × (row words c 0 ≤ 4) × IsHeldByOne threads c)
+    → ((row words c 0 ≡ free) × ((i : ℕ) (v : ThreadView) → get_elem? threads i ≡ some v → place v.place ≢ some c))
+    ⊎ ((busy ≤ row words c 0) × (row words c 0 ≤ acknowledged) × IsHeldByOne threads c)

@@ -6,6 +6,7 @@ pub mod Fitting
 pub mod Following
 pub mod Found
 pub mod Laws
+pub mod Marks
 pub mod Moves
 pub mod Observations
 pub mod Places

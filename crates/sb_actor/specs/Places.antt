@@ -1,5 +1,5 @@
 -- The statements of a thread, and where a thread begins with each.
-use Rattle.std.specs.Prelude.{ℕ, zero, suc, ◌+◌, ◌*◌, Bool, true, false, nat_le, List, [], ◌∷◌, ◌++◌, length, slice_get, Option, None, Some}
+use Rattle.std.specs.Prelude.{ℕ, zero, suc, ◌+◌, Bool, true, false, nat_le, List, [], ◌∷◌, ◌++◌, length, slice_get, Option, None, Some}
 use Rattle.sb_block.specs.Blocks.{block}
 use Rattle.sb_statements.specs.Scripts.{is_clean}
 use Rattle.sb_statements.specs.Soundness.{channels_of}
@@ -7,6 +7,7 @@ use Rattle.sb_statements.specs.declared.scripts.Script.{Script}
 use Rattle.sb_statements.specs.declared.scripts.TargetScript.{TargetScript}
 use Rattle.sb_statements.specs.declared.statements.Statement.{Statement}
 use Rattle.sb_statements.specs.declared.statements.Statement.TheVariants.{Call, Store, Exchange, Load, Wait}
+pub use Rattle.sb_actor.specs.Marks.{mark_at}
 use Rattle.sb_actor.specs.ThreadStages.{ThreadStage, Try, Stray, Over, ThreadAt}
 use Rattle.sb_actor.specs.ThreadStages as stage
 
@@ -26,10 +27,6 @@ statements_of script target thread = or_none (slice_get (threads_of (slice_get s
 -- the statement at a place
 abbrev pub statement_at : Script → ℕ → ℕ → ℕ → Option Statement
 statement_at script target thread place = slice_get (statements_of script target thread) place
-
--- the mark of a call
-abbrev pub mark_at : ℕ → ℕ → ℕ
-mark_at thread place = (thread + 1) * 65536 + place
 
 -- the block of a call with this mark; other statements have none
 abbrev pub block_of : ℕ → Option Statement → List ℕ

@@ -5,19 +5,20 @@ use Rattle.sb_block.specs.Copies.{Copied, is_copy, mark_of}
 use Rattle.sb_actor.specs.ThreadStages.{ThreadStage}
 use Rattle.sb_actor.specs.ThreadStages as thread
 use Rattle.sb_actor.specs.WorkerStages.{WorkerStage, Look, Count, End, Copy, Take, Answer, Give, Reply, Ack}
+use Rattle.sb_block.specs.Layout.{most_words, most_parameters, reply_length, first_offset}
 
 -- a reply of twelve words, the first of which is the mark of the copy
 pub record IsReplyTo (taken : Copied) (reply : List ℕ) : Type 0 where
-  pub size : length reply ≡ 12
+  pub size : length reply ≡ reply_length
   pub mark : slice_index reply 0 ≡ mark_of taken
 
 abbrev pub IsSoundStage : WorkerStage → Type 0
-IsSoundStage (End count) = count ≤ 9
-IsSoundStage (Copy count end words) = (count ≤ 9) × (16 + count ≤ end) × (end ≤ 64) × (length words < end)
+IsSoundStage (End count) = count ≤ most_parameters
+IsSoundStage (Copy count end words) = (count ≤ most_parameters) × (first_offset count ≤ end) × (end ≤ most_words) × (length words < end)
 IsSoundStage (Take taken) = is_copy taken ≡ true
 IsSoundStage (Answer taken) = is_copy taken ≡ true
 IsSoundStage (Give taken reply) = IsReplyTo taken reply
-IsSoundStage (Reply taken reply at) = (at < 12) × IsReplyTo taken reply
+IsSoundStage (Reply taken reply at) = (at < reply_length) × IsReplyTo taken reply
 IsSoundStage (Ack taken reply) = IsReplyTo taken reply
 IsSoundStage _ = Unit {0}
 
@@ -28,8 +29,8 @@ IsSoundThreadStage channels patience block (thread.Try c rounds all_abandoned) =
 IsSoundThreadStage channels patience block (thread.Fill c i) = (c < channels) × (i < length block)
 IsSoundThreadStage channels patience block (thread.Send c) = c < channels
 IsSoundThreadStage channels patience block (thread.Wait c loads) = (c < channels) × (loads < patience)
-IsSoundThreadStage channels patience block (thread.Fetch c words) = (c < channels) × (length words < 12)
-IsSoundThreadStage channels patience block (thread.Free c words) = (c < channels) × (length words ≡ 12)
+IsSoundThreadStage channels patience block (thread.Fetch c words) = (c < channels) × (length words < reply_length)
+IsSoundThreadStage channels patience block (thread.Free c words) = (c < channels) × (length words ≡ reply_length)
 IsSoundThreadStage channels patience block (thread.Abandon c) = c < channels
 IsSoundThreadStage channels patience block (thread.Stray loads most) = loads < most
 IsSoundThreadStage channels patience block thread.Over = Unit {0}

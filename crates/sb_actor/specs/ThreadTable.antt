@@ -17,6 +17,7 @@ use Rattle.sb_statements.specs.declared.results.StmtResult.TheVariants.{Call, St
 use Rattle.sb_statements.specs.declared.scripts.Script.{Script}
 use Rattle.sb_statements.specs.declared.statements.Statement.{Statement}
 use Rattle.sb_statements.specs.declared.statements.Statement.TheVariants as statement
+use Rattle.sb_block.specs.Layout.{reply_length, first_reply_word}
 
 -- what a step leads to: the thread after it, and the result if it ended the statement
 pub record ThreadNext : Type 0 where
@@ -67,7 +68,7 @@ is_clean_at x c = slice_index_or x.clean c true
 abbrev pub has_clean : List Bool → Bool
 has_clean clean = list_any (λ mark. mark) clean
 
--- after the last channel a round is counted: no channel if all of this round found 5, or if the target has no clean
+-- after the last channel a round is counted: no channel if this round found all channels abandoned, or if the target has no clean
 -- channel and the rounds counted are the patience. On a target that has one the rounds have no bound, and are not kept
 abbrev pub after_round : Script → ThreadAt → ℕ → Bool → ThreadNext
 after_round script x rounds all_abandoned =
@@ -100,7 +101,7 @@ after_wait x c loads state =
 
 -- the reply is fetched with its twelfth word
 abbrev pub after_fetch : ℕ → List ℕ → ThreadStage
-after_fetch c words = if length words == 12 then Free c words else Fetch c words
+after_fetch c words = if length words == reply_length then Free c words else Fetch c words
 
 -- a reply that has the call's mark is its own
 abbrev pub reply_by : ℕ → ℕ → Reply → CallResult
@@ -129,7 +130,7 @@ thread_row script x (Try c rounds all_abandoned) = row (exchange_state x c free 
 thread_row script x (Fill c i) = row (store_block x c i (slice_index x.block i)) (λ s. goes_on x (after_fill x c i))
 thread_row script x (Send c) = row (exchange_state x c busy ready) (λ s. after_send script x c (value_in s))
 thread_row script x (Wait c loads) = row (load_state x c) (λ s. goes_on x (after_wait x c loads (value_in s)))
-thread_row script x (Fetch c words) = row (load_block x c (3 + length words)) (λ s. goes_on x (after_fetch c (words ++ value_in s ∷ [])))
+thread_row script x (Fetch c words) = row (load_block x c (first_reply_word + length words)) (λ s. goes_on x (after_fetch c (words ++ value_in s ∷ [])))
 thread_row script x (Free c words) = row (store_state x c free) (λ s. ends script x (Call (reply_by c (mark_at x.thread x.place) (read_reply words))))
 thread_row script x (Abandon c) = row (store_state x c abandoned) (λ s. ends script x (Call (result.TimedOut c)))
 thread_row script x (Stray loads most) = stray_row script x loads most (statement_at script x.target x.thread x.place)

@@ -1,5 +1,5 @@
--- What rule S knows of a target's actors. Words are numbered over all channels of the target: word j of channel c is `c * 65 + j`, where 0 is the
--- state and 1 + i is block word i.
+-- What rule S knows of a target's actors. Words are numbered over all channels of the target: word j of channel c is `c * words_of_channel + j`, where 0
+-- is the state and 1 + i is block word i.
 use Rattle.std.specs.Prelude.{ℕ, Bool, List}
 use Rattle.sb_block.specs.Copies.{Copied}
 
@@ -10,7 +10,7 @@ pub record Served : Type 0 where
   pub reply : List ℕ
 
 -- a call of a thread that ended on a clean channel: its channel, its block, and the twelve words of the reply
-pub record Had : Type 0 where
+pub record EndedCall : Type 0 where
   pub channel : ℕ
   pub block : List ℕ
   pub reply : List ℕ
@@ -25,7 +25,7 @@ pub data WorkerPlace : Type 0 where
   Whole : Copied → WorkerPlace
   Reply : Copied → List ℕ → WorkerPlace
 
--- Where a thread is within its call, at a channel: it tries to take it, and so far this round found nothing but 5, or something else; it has
+-- Where a thread is within its call, at a channel: it tries to take it, and so far this round found all channels abandoned, or not; it has
 -- the channel, and filled words; it handed its block over; it found the reply to its block, and fetched words. Outside a call it tries channel 0
 pub data ThreadPlace : Type 0 where
   Try : ℕ → Bool → ThreadPlace
@@ -45,4 +45,4 @@ pub record ThreadView : Type 0 where
   pub number : ℕ
   pub clean : List Bool
   pub place : ThreadPlace
-  pub had : List Had
+  pub ended_calls : List EndedCall

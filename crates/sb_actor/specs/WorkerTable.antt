@@ -8,6 +8,7 @@ use Rattle.sb_actor.specs.WorkerStages.{WorkerStage, Look, Count, End, Copy, Tak
 use Rattle.sb_actor.specs.declared.acts.Act.{Act}
 use Rattle.sb_actor.specs.declared.acts.Act.TheVariants as act
 use Rattle.sb_actor.specs.Observations.{Observation}
+use Rattle.sb_block.specs.Layout.{most_parameters, first_descriptor, first_reply_word}
 
 -- a row: the step, and the worker after it, by what the step found
 pub record WorkerRow : Type 0 where
@@ -44,7 +45,7 @@ after_look w state = if state == ready then at_stage w Count else look_next w
 
 -- a count above 9 ends the copy before its first word
 abbrev pub after_count : ℕ → WorkerStage
-after_count count = if nat_lt 9 count then Take (copied count 0 []) else End count
+after_count count = if nat_lt most_parameters count then Take (copied count 0 []) else End count
 
 -- so does an end before the parameters or past the block
 abbrev pub after_end : ℕ → ℕ → WorkerStage
@@ -67,12 +68,12 @@ abbrev pub worker_row : WorkerAt → WorkerStage → WorkerRow
 -- at a stage = the step, and the worker after it by what the step found
 worker_row w Look = row (load_state w) (λ s. after_look w (value_in s))
 worker_row w Count = row (load_block w 2) (λ s. at_stage w (after_count (value_in s)))
-worker_row w (End count) = row (load_block w (15 + count)) (λ s. at_stage w (after_end count (offset_of (value_in s))))
+worker_row w (End count) = row (load_block w (first_descriptor + count)) (λ s. at_stage w (after_end count (offset_of (value_in s))))
 worker_row w (Copy count end words) = row (load_block w (length words)) (λ s. at_stage w (after_copy count end (words ++ value_in s ∷ [])))
 worker_row w (Take taken) = row act.Take (λ s. at_stage w (after_take taken (turn_in s)))
 worker_row w (Answer taken) = row act.Answer (λ s. at_stage w (Give taken (reply_words (reply_in s))))
 worker_row w (Give taken reply) = row act.Give (λ s. at_stage w (Reply taken reply 0))
-worker_row w (Reply taken reply at) = row (store_block w (3 + at) (slice_index reply at)) (λ s. at_stage w (after_reply taken reply at))
+worker_row w (Reply taken reply at) = row (store_block w (first_reply_word + at) (slice_index reply at)) (λ s. at_stage w (after_reply taken reply at))
 worker_row w (Ack taken reply) = row (exchange_state w ready acknowledged) (λ s. look_next w)
 
 -- the next step of a worker

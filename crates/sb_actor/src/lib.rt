@@ -13,6 +13,7 @@
 mod acts;
 mod endings;
 mod laws;
+mod marks;
 mod memory;
 mod places;
 mod stages;
@@ -25,7 +26,8 @@ pub use laws::{
     results_have_causes, results_have_steps, starts_in_rule, stray_keeps_rule, thread_follows,
     thread_keeps_rule, waits_end_for_cause, worker_follows, worker_keeps_rule,
 };
+pub use marks::{CallMark, mark_at, marks_come_back};
 pub use memory::Memory;
-pub use places::{establish_found, mark_at, sound_statement_at, statement_at};
+pub use places::{establish_found, sound_statement_at, statement_at};
 pub use threads::ThreadState;
 pub use workers::WorkerState;

@@ -1,18 +1,11 @@
 // The statements of a thread.
 ghost use Rattle.std.specs.Prelude.{◌≡◌, ◌<◌, ◌≤◌, length, true, option_map, IfSome};
 ghost use Rattle.sb_actor.specs.Found.{AreFound, IsFound};
-ghost use Rattle.sb_actor.specs.Places.{statements_of, statement_at, mark_at, clean_upto};
+ghost use Rattle.sb_actor.specs.Places.{statements_of, statement_at, clean_upto};
 ghost use Rattle.sb_statements.specs.CleanTables.{IsCleanTable};
 
 use arrayvec::ArrayVec;
 use sb_statements::{CleanTable, SoundScript, Statement, sound_parts};
-
-/// The mark of the call at a place of a thread.
-pub fn mark_at(thread: u32, place: u32) -> u64
-    ensures { result ≡ mark_at thread place }
-{
-    (u64::from(thread) + 1) * 65536 + u64::from(place)
-}
 
 /// The statements of a thread, none if it is not there.
 pub(crate) fn statements_of(script: &SoundScript, target: u32, thread: usize) -> &[Statement]

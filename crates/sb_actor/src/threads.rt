@@ -16,8 +16,9 @@ use crate::acts::{
     state_word, store,
 };
 use crate::endings::Ending;
+use crate::marks::mark_at;
 use crate::memory::Memory;
-use crate::places::{clean_upto, mark_at, sound_statement_at, statement_at, statements_of};
+use crate::places::{clean_upto, sound_statement_at, statement_at, statements_of};
 use crate::stages::ThreadStage;
 use arrayvec::ArrayVec;
 use sb_block::{FIRST_REPLY_WORD, REPLY_LENGTH, Words, put_block, read_reply};

@@ -1,9 +1,9 @@
 // What the broker decides of a copy.
-ghost use Rattle.std.specs.Prelude.{◌≡◌, ◌<◌, length, true, None, IfOk, OnErr};
+ghost use Rattle.std.specs.Prelude.{◌≡◌, ◌<◌, length, true, None, Ok, IfOk, OnErr};
 ghost use Rattle.sb_block.specs.Faults.{fault};
 ghost use Rattle.sb_call.specs.Arguments.{fits};
 ghost use Rattle.sb_rule.specs.Verdicts.{policy_at};
-ghost use Rattle.sb_book.specs.Decisions.{decision_of, by_verdict, read_only_args};
+ghost use Rattle.sb_book.specs.Decisions.{by_decoded, decision_of, by_verdict, read_only_args};
 
 use sb_base::NoMemory;
 use sb_block::{BlockCopy, BlockFault, BlockRefused, Call, decode};
@@ -65,13 +65,22 @@ pub fn decide<J: Judge>(
     ensures exact { IfOk result (λ d. d ≡ decision_of (policy_at (J.policies judge.now) target) taken.now) }
     ensures memory { OnErr result (fault taken.now ≡ None) }
 {
-    let call = match decode(alloc, taken) {
-        Ok(call) => call,
-        Err(BlockRefused::Fault(fault)) => return Ok(Decision::Refused(fault)),
-        Err(BlockRefused::NoMemory) => return Err(NoMemory),
-    };
+    match decode(alloc, taken) {
+        Ok(call) => Ok(decide_call(judge, target, call)),
+        Err(BlockRefused::Fault(fault)) => Ok(Decision::Refused(fault)),
+        Err(BlockRefused::NoMemory) => Err(NoMemory),
+    }
+}
+
+/// Decides by the rules of a target's policy on the call of a copy, which has no fault. Nothing is performed, and nothing is allocated. The
+/// judge must know the target, and the arguments fit the call, as those of each call that a copy has.
+pub fn decide_call<J: Judge>(judge: &J, target: u32, call: Call) -> Decision
+    requires target { target < length (J.policies judge.now) }
+    requires fits { fits call.tag call.args ≡ true }
+    ensures { result ≡ by_decoded (policy_at (J.policies judge.now) target) (Ok call) }
+{
     let verdict = judge.judge(target, call.tag, call.args.as_slice());
-    Ok(decided(call, verdict))
+    decided(call, verdict)
 }
 
 // The decision that a verdict on a call makes.

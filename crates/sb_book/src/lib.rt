@@ -18,7 +18,7 @@ mod stores;
 mod views;
 
 pub use books::Book;
-pub use decisions::{Decision, decide};
+pub use decisions::{Decision, decide, decide_call};
 pub use entries::{Entries, Entry};
 pub use laws::{
     answers_keep_histories, entries_of_targets_append, entries_say_what_was_done, fronts_are_legal,

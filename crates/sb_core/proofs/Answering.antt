@@ -1,46 +1,26 @@
 -- The step of a worker at Answer, and room for the result of a statement.
 use Rattle.std.proofs.Common.{◌≡◌, refl, ◌<◌, ◌≤◌, ℕ, true, false, sym, ap, ◌∙◌, arith}
 use Rattle.std.specs.Prelude.{Option, None, Some, IfSome, is_some}
-use Rattle.sb_actor.specs.Observations.{Observation}
-use Rattle.sb_actor.specs.WorkerStages.{WorkerStage, WorkerAt, Look, Count, End, Copy, Take, Answer, Give, Reply, Ack}
-use Rattle.sb_actor.specs.WorkerTable.{worker_plan, worker_row, taken_in, IsAnswer}
-use Rattle.sb_actor.specs.declared.acts.Act.{Act}
+use Rattle.sb_core.proofs.Names.{Act, Answer, is_answer, IsAnswer, Observation, on_answer, on_worker, SharedAt, StmtResult, taken_in, worker_after, worker_by, worker_plan, worker_row, worker_step_of, WorkerAt, WorkerStage}
 use Rattle.sb_actor.specs.declared.acts.Act.TheVariants as act
-use Rattle.sb_statements.specs.declared.results.StmtResult.{StmtResult}
 use Rattle.sb_call.specs.declared.replies.Reply.{Reply as CallReply}
 use Rattle.sb_actor.specs.Observations.{Answered}
-use Rattle.sb_actor.specs.WorkerTable.{worker_after}
-use Rattle.sb_core.specs.Shared.{SharedAt, is_answer, on_answer, on_worker, worker_by, worker_step_of}
 
 -- a worker at Answer has a copy
 pub has_copy : (w : WorkerAt) → worker_plan w ≡ act.Answer → is_some (taken_in w.stage) ≡ true
 has_copy w e = by_stage w.stage (ap is_answer e)
   where
     by_stage : (stage : WorkerStage) → is_answer (worker_row w stage).step ≡ true → is_some (taken_in stage) ≡ true
-    by_stage Look h = absurd cc
-    by_stage Count h = absurd cc
-    by_stage (End count) h = absurd cc
-    by_stage (Copy count end words) h = absurd cc
-    by_stage (Take taken) h = refl
     by_stage (Answer taken) h = refl
-    by_stage (Give taken reply) h = refl
-    by_stage (Reply taken reply at) h = absurd cc
-    by_stage (Ack taken reply) h = absurd cc
+    by_stage _ h = absurd (cc)
 
 -- and only there does the book reply
 pub no_answer : (w : WorkerAt) (a : Act) (seen : Observation) → a ≡ worker_plan w → is_answer a ≡ false → IsAnswer w.stage seen
 no_answer w a seen e h = by_stage w.stage (sym (ap is_answer e) ∙ h)
   where
     by_stage : (stage : WorkerStage) → is_answer (worker_row w stage).step ≡ false → IsAnswer stage seen
-    by_stage Look h = tt
-    by_stage Count h = tt
-    by_stage (End count) h = tt
-    by_stage (Copy count end words) h = tt
-    by_stage (Take taken) h = tt
-    by_stage (Answer taken) h = absurd cc
-    by_stage (Give taken reply) h = tt
-    by_stage (Reply taken reply at) h = tt
-    by_stage (Ack taken reply) h = tt
+    by_stage (Answer taken) h = absurd (cc)
+    by_stage _ h = tt
 
 -- a list with room for most results has room for one of fewer
 pub room_in : (ended : Option StmtResult) (made most room : ℕ) → IfSome ended (λ r. made < most) → most ≤ room → IfSome ended (λ r. made < room)

@@ -1,21 +1,9 @@
 -- The worlds of a script: the start, steps and drains lead to one.
-use Rattle.std.proofs.Common.{◌≡◌, ◌∙◌, refl, ap, sym, Bool, true, ◌&&◌, List, [], ◌∷◌, ◌++◌}
-use Rattle.std.proofs.lemmas.List.Folds.{list_all-append}
-use Rattle.sb_statements.specs.Actors.{is_there}
-use Rattle.sb_statements.specs.Soundness.{SoundStatements, SoundTargets}
-use Rattle.sb_rule.specs.declared.policies.Policy.{Policy}
-use Rattle.sb_statements.specs.declared.schedules.Actor.{Actor}
-use Rattle.sb_statements.specs.declared.schedules.Schedule.{Schedule}
-use Rattle.sb_statements.specs.declared.scripts.Script.{Script}
-use Rattle.sb_core.specs.Actors.{are_there}
-use Rattle.sb_core.specs.Drains.{drained}
-use Rattle.sb_core.specs.Kept.{IsRunning, IsWorld}
-use Rattle.sb_core.specs.OfScripts.{DrainsAreOfScripts, IsOfScript, StartsAreOfScripts, StepsAreOfScripts, WorldsOfScriptsRun}
-use Rattle.sb_core.specs.Runs.{CanRun, played}
-use Rattle.sb_core.specs.Worlds.{WorldAt, start_world, step, steps}
+use Rattle.std.proofs.Common.{◌≡◌, ◌∙◌, refl, ap, sym, true, List, [], ◌∷◌, ◌++◌, ℕ, ◌<◌, length}
+use Rattle.sb_core.proofs.Names.{Actor, CanRun, drained, DrainsAreOfScripts, is_there, IsOfScript, IsReady, IsRunning, IsWorld, played, Policy, Schedule, Script, SoundStatements, SoundTargets, start_world, StartsAreOfScripts, step, steps, StepsAreOfScripts, Thread, threads_at, Worker, worker_step, WorldAt, WorldsOfScriptsRun}
 use Rattle.sb_core.proofs.Folding.{steps_append}
-use Rattle.sb_core.proofs.Running.{step_keeps}
-use Rattle.sb_core.proofs.Stepping.{Leads, kept_along, leads_by, leads_drain, leads_run}
+use Rattle.sb_core.proofs.Running.{step_keeps, thread_is_there, worker_is_there}
+use Rattle.sb_core.proofs.Stepping.{Leads, kept_along, leads_by, leads_drain, leads_run, all_append, single}
 use Rattle.sb_core.proofs.Starting.{starts_keep}
 
 pub of_start : StartsAreOfScripts
@@ -27,18 +15,12 @@ of_more script w v leads o = record {
   policies = o.policies;
   actors = o.actors ++ leads.actors;
   ready = o.ready;
-  there = list_all-append (is_there script.targets) o.actors leads.actors ∙ both_true (are_there script.targets o.actors) (are_there script.targets leads.actors) o.there leads.there;
+  there = all_append (is_there script.targets) o.actors leads.actors o.there leads.there;
   reached = leads.reached ∙ (ap (steps script leads.actors) o.reached ∙ sym (steps_append script o.actors leads.actors (start_world o.policies script)));
 }
-  where
-    both_true : (a b : Bool) → a ≡ true → b ≡ true → (a && b) ≡ true
-    both_true a b h k = rw (h, k) refl
-
-alone : (script : Script) (actor : Actor) → is_there script.targets actor ≡ true → are_there script.targets (actor ∷ []) ≡ true
-alone script actor h = rw h refl
 
 pub of_step : StepsAreOfScripts
-of_step script w actor o h = of_more script w (step script w actor) (leads_by script (actor ∷ []) w (alone script actor h)) o
+of_step script w actor o h = of_more script w (step script w actor) (leads_by script (actor ∷ []) w (single (is_there script.targets) actor h)) o
 
 pub of_drain : (script : Script) (w : WorldAt) → IsWorld w → IsRunning script w → IsOfScript script w → IsOfScript script (drained w)
 of_drain script w kept runs o = of_more script w (drained w) (leads_drain script w kept runs) o
@@ -67,3 +49,26 @@ of_end targets statements policies script schedule can =
 
 pub of_drains : SoundTargets → SoundStatements → DrainsAreOfScripts
 of_drains targets statements script w o = let keeps = of_runs targets statements script w o in of_drain script w keeps.0 keeps.1 o
+
+-- a world of a script with what it keeps
+pub record Keeps (script : Script) (P : WorldAt → Type 0) (w : WorldAt) : Type 0 where
+  pub kept : IsWorld w
+  pub runs : IsRunning script w
+  pub has : P w
+
+-- what holds at the start, and is kept by each step of a worker and of a thread that is there, holds of each world that steps lead to
+module _ (targets : SoundTargets) (statements : SoundStatements) (script : Script) (P : WorldAt → Type 0)
+    (worker : (w : WorldAt) (t : ℕ) → Keeps script P w → t < length w.workers → P (worker_step w t))
+    (thread : (w : WorldAt) (t k : ℕ) → Keeps script P w → k < length (threads_at w t) → P (step script w (Thread t k))) where
+  keeps_step : (w : WorldAt) (actor : Actor) → Keeps script P w → is_there script.targets actor ≡ true → Keeps script P (step script w actor)
+  keeps_step w (Worker t) h e =
+      let next = step_keeps statements script w (Worker t) h.kept h.runs e in
+      record { kept = next.0; runs = next.1; has = worker w t h (worker_is_there script w t h.kept h.runs e) }
+  keeps_step w (Thread t k) h e =
+      let next = step_keeps statements script w (Thread t k) h.kept h.runs e in
+      record { kept = next.0; runs = next.1; has = thread w t k h (thread_is_there script w t k h.runs e) }
+
+  pub holds_on : (policies : List Policy) → IsReady policies script → P (start_world policies script) → (w : WorldAt) → Leads script (start_world policies script) w → Keeps script P w
+  holds_on policies ready start w leads =
+      let first = starts_keep targets statements policies script ready in
+      kept_along script (Keeps script P) keeps_step (start_world policies script) w leads (record { kept = first.0; runs = first.1; has = start })

@@ -1,29 +1,11 @@
 -- What a step changes.
 use Rattle.std.proofs.Common.{◌≡◌, ◌≢◌, ◌∙◌, refl, ap, subst, sym, ℕ, ◌<◌, ◌≤◌, Bool, true, false, ltb, ◌==◌, ◌&&◌, ◌++◌, List, [], length, set, get_or, get_or-set_same, get_or-set_other, None, arith}
-use Rattle.std.proofs.lemmas.Bool.Decides.{nat_tests}
-use Rattle.std.proofs.lemmas.List.{append-nil, set_past}
-use Rattle.std.specs.Option.{option_to_list}
-use Rattle.std.specs.Prelude.{slice_index}
-use native.Mathlib.Decide.{ℕ_discrete}
-use Rattle.sb_actor.specs.ThreadTable.{thread_after, thread_plan}
-use Rattle.sb_actor.specs.WorkerStages.{WorkerStage, WorkerAt, Look, Take, Answer, Give, Reply, Ack}
-use Rattle.sb_actor.specs.WorkerTable.{worker_plan}
-use Rattle.sb_actor.specs.declared.acts.Act.{Act}
+use Rattle.std.proofs.lemmas.List.{set_past}
+use Rattle.sb_core.proofs.Names.{Ack, Act, Answer, append-nil, exchanged, Give, is_answer, IsActThere, IsOneMore, loaded, Look, moves_turn, nat_tests, no_run, no_worker, on_word, on_worker, option_to_list, place_of, run_at, RunAt, Script, SharedAt, slice_index, SoundStatements, StepsChangeLittle, StmtResult, stored, Take, Thread, thread_after, thread_plan, threads_at, Word, words_of, Worker, worker_at, worker_plan, WorkerAt, WorkerStage, WorldAt, writes, ℕ_discrete}
+use Rattle.sb_actor.specs.WorkerStages.{Reply}
 use Rattle.sb_actor.specs.declared.acts.Act.TheVariants as act
-use Rattle.sb_statements.specs.Soundness.{SoundStatements}
-use Rattle.sb_statements.specs.declared.results.StmtResult.{StmtResult}
-use Rattle.sb_statements.specs.declared.schedules.Actor.TheVariants.{Thread, Worker}
-use Rattle.sb_statements.specs.declared.scripts.Script.{Script}
-use Rattle.sb_statements.specs.declared.statements.Word.{Word}
-use Rattle.sb_core.specs.Changes.{IsOneMore, moves_turn, writes}
-use Rattle.sb_core.specs.Laws.{StepsChangeLittle}
-use Rattle.sb_core.specs.Shared.{IsActThere, SharedAt, is_answer, on_word, on_worker}
-use Rattle.sb_core.specs.Threads.{RunAt, no_run}
-use Rattle.sb_core.specs.Words.{exchanged, loaded, stored, words_of}
-use Rattle.sb_statements.specs.Words.{place_of}
-use Rattle.sb_core.specs.Worlds.{WorldAt, no_worker, run_at, threads_at, worker_at}
 use Rattle.sb_core.proofs.Running.{thread_is_there, worker_is_there}
-use Rattle.sb_core.proofs.There.{listed, thread_there, worker_there}
+use Rattle.sb_core.proofs.Existence.{listed, thread_there, worker_there}
 use Rattle.sb_core.proofs.ThreadKeeping.{word_keeps}
 
 -- a word that is not written
@@ -89,6 +71,10 @@ module _ (script : Script) (w : WorldAt) (t : ℕ) (x : WorkerAt) where
   worker_book_setting Look = refl
   worker_book_setting _ = refl
 
+-- the target and the number of a thread
+pub thread_parts : (t k u j : ℕ) → Thread t k ≡ Thread u j → (t ≡ u) × (k ≡ j)
+thread_parts t k u j e = (cc, cc)
+
 -- two threads that are not the same have another target or another number
 pub other_run : (w : WorldAt) (t k : ℕ) (y : RunAt) (u j : ℕ) → Thread t k ≢ Thread u j
     → get_or (get_or (set w.threads t (set (threads_at w t) k y)) u []) j no_run ≡ run_at w u j
@@ -125,14 +111,8 @@ results_more w t k y here there more u j = by_target (ℕ_discrete u t) (ℕ_dis
         (subst (λ (row : List RunAt). IsOneMore (run_at w t k).results (get_or row k no_run).results)
         (sym (get_or-set_same w.threads t (set (threads_at w t) k y) [] here))
         (subst (λ (x : RunAt). IsOneMore (run_at w t k).results x.results) (sym (get_or-set_same (threads_at w t) k y no_run there)) more))
-    by_target (no n) d = same (λ e. n (sym (target_is t k u j e)))
-      where
-        target_is : (t k u j : ℕ) → Thread t k ≡ Thread u j → t ≡ u
-        target_is t k u j e = cc
-    by_target (yes s) (no n) = same (λ e. n (sym (thread_is t k u j e)))
-      where
-        thread_is : (t k u j : ℕ) → Thread t k ≡ Thread u j → k ≡ j
-        thread_is t k u j e = cc
+    by_target (no n) d = same (λ e. n (sym (thread_parts t k u j e).0))
+    by_target (yes s) (no n) = same (λ e. n (sym (thread_parts t k u j e).1))
 
 pub steps_change_little : SoundStatements → StepsChangeLittle
 steps_change_little law script w (Worker t) kept runs e =

@@ -1,28 +1,13 @@
 -- Where a run by some order of steps ends: the report of `finish` is that of a run by a schedule.
-use Rattle.std.proofs.Common.{◌≡◌, ◌∙◌, refl, ap, subst, sym, ℕ, zero, suc, ◌*◌, ◌<◌, Bool, true, false, ◌&&◌, List, [], ◌∷◌, map, length, slice_get, Option, None, Some, arith}
-use Rattle.std.specs.List.{list_all}
-use Rattle.std.proofs.lemmas.Bool.Decides.{nat_tests}
-use Rattle.sb_actor.specs.WorkerStages.{Look}
-use Rattle.sb_statements.specs.Actors.{is_there, is_step_there}
-use Rattle.sb_statements.specs.Soundness.{SoundStatements, SoundTargets, channels_of}
-use Rattle.sb_statements.specs.declared.schedules.Actor.{Actor}
-use Rattle.sb_statements.specs.declared.scripts.Script.{Script}
-use Rattle.sb_statements.specs.declared.scripts.TargetScript.{TargetScript}
-use Rattle.sb_core.specs.Actors.{scheduled}
-use Rattle.sb_core.specs.Drains.{drained, drained_by, is_settled, most_passes, one_pass, pass_below}
-use Rattle.sb_core.specs.Kept.{IsWorld, has_turn, is_holder}
-use Rattle.sb_core.specs.Laws.{EndsAreRuns, EndsCanFinish, FinishedRunsAreWhole}
-use Rattle.sb_core.specs.OfScripts.{IsOfScript}
-use Rattle.sb_core.specs.Reports.{report_of, results_of}
-use Rattle.sb_core.specs.Results.{AreAllResults}
-use Rattle.sb_core.specs.Runs.{ended, ran, schedule_of}
-use Rattle.sb_core.specs.Shared.{SharedAt}
-use Rattle.sb_core.specs.Threads.{first_unfinished}
-use Rattle.sb_core.specs.Words.{words_of}
-use Rattle.sb_core.specs.Worlds.{WorldAt, start_world, steps, worker_at, worker_step}
+use Rattle.std.proofs.Common.{◌≡◌, ◌∙◌, refl, ap, subst, sym, ℕ, zero, suc, ◌*◌, ◌<◌, Bool, true, false, ◌&&◌, List, [], ◌∷◌, map, length, Option, None, Some, arith, ◌≤◌, get_or}
+use Rattle.sb_core.proofs.Names.{Actor, AreAllResults, CanFinish, drained, drained_by, EndsAreRuns, EndsCanFinish, FinishedRunsAreWhole, first_unfinished, get_or-map, has_turn, History, is_holder, is_settled, is_sound, is_step_there, is_there, IsOfScript, IsSoundStage, IsWorkerOf, IsWorld, length-map, list_all, Look, most_passes, nat_tests, one_pass, pass_below, ran, report_of, results_of, RunAt, schedule_of, scheduled, Script, SharedAt, SoundStatements, SoundTargets, start_world, steps, StmtResult, TargetScript, worker_at, worker_step, WorkerAt, WorkerStage, world_of, WorldAt}
+use Rattle.sb_core.specs.Runs.{ended}
 use Rattle.sb_core.proofs.Belonging.{of_runs}
 use Rattle.sb_core.proofs.Folding.{orders_are_schedules}
-use Rattle.sb_core.proofs.There.{as_many, targets_there}
+use Rattle.sb_core.proofs.Existence.{as_many, targets_there, channels_from, wanted_at}
+use Rattle.sb_core.proofs.RunLaws.{sized_all}
+use Rattle.sb_core.proofs.Bounds.{few_targets, some_channels}
+use Rattle.sb_core.proofs.Numbers.{none_some, least}
 
 -- the world without its threads
 abbrev bare : WorldAt → WorldAt
@@ -64,18 +49,6 @@ ends_are_runs policies script actors w ready there reached over free =
       drains = shown;
     }
 
--- 65 words for each channel
-sized_all : (targets : List TargetScript) (words : List (List ℕ)) → length words ≡ length targets
-    → ((t : ℕ) → t < length targets → length (words_of words t) ≡ channels_of (slice_get targets t) * 65)
-    → map (λ (ws : List ℕ). length ws) words ≡ map (λ target. target.channels * 65) targets
-sized_all [] [] e h = refl
-sized_all [] (ws ∷ words) e h = absurd (omega (arith, e))
-sized_all (x ∷ xs) [] e h = absurd (omega (arith, e))
-sized_all (x ∷ xs) (ws ∷ words) e h =
-    let first : length ws ≡ x.channels * 65 = h 0 (omega arith) in
-    let rest = sized_all xs words (omega (arith, e)) (λ t l. h (suc t) (omega (arith, l))) in
-    λ k. first k ∷ rest k
-
 -- if each worker looks, none has the turn
 nobody : (script : Script) (w : WorldAt) → IsWorld w → length w.workers ≡ length script.targets
     → ((t : ℕ) → t < length script.targets → (worker_at w t).stage ≡ Look) → (o : Option ℕ) → w.shared.turn ≡ o → o ≡ None
@@ -109,3 +82,50 @@ ends_can_finish targets statements whole policies script actors w ready there re
         whole = subst (AreAllResults script) (sym (ap (λ r. r.results) end.drains)) (whole policies script (schedule_of actors) end.can end.unfinished).0;
       },
     )
+
+module _ (law : SoundTargets) (script : Script) (words : List (List ℕ)) (workers : List WorkerAt) (book : History) (results : List (List (List StmtResult)))
+    (sound : is_sound script ≡ true) (can : CanFinish script words workers book results) where
+  abbrev w : WorldAt
+  w = world_of words workers book
+
+  worker_of : (t : ℕ) → t < length workers → IsWorkerOf w t (worker_at w t)
+  worker_of t l =
+      let idle = can.idle t l in
+      let count = can.count in
+      let few = some_channels law script t sound (omega (arith, count, l)) in
+      let many = few.1 in
+      let channels = idle.its_channels in
+      record {
+        its_target = idle.its_target;
+        its_channels = idle.its_channels ∙ sym (ap (λ cs. get_or cs t 0) can.channels ∙ channels_from script.targets t);
+        within = idle.within;
+        few = omega (arith, channels, many);
+        sound = subst (λ (s : WorkerStage). IsSoundStage s) (sym idle.looks) tt;
+        sized = sym (get_or-map (λ (ws : List ℕ). length ws) words t []) ∙ (ap (λ ns. get_or ns t 0) can.sized ∙ (wanted_at script.targets t ∙ ap (λ z. z * 65) (sym idle.its_channels)));
+        turn = ap (λ (s : WorkerStage). has_turn s) idle.looks;
+      }
+
+  pub finishing_world : IsWorld w
+  finishing_world =
+      let count = can.count in
+      let targets = few_targets script sound in
+      record {
+        few = omega (arith, count, targets);
+        policies = can.policies ∙ sym can.count;
+        channels = ap (λ (cs : List ℕ). length cs) can.channels ∙ (length-map script.targets (λ (target : TargetScript). target.channels) ∙ sym can.count);
+        words = sym (length-map words (λ (ws : List ℕ). length ws))
+            ∙ (ap (λ (ns : List ℕ). length ns) can.sized ∙ (length-map script.targets (λ (target : TargetScript). target.channels * 65) ∙ sym can.count));
+        holder = λ t e. absurd (none_some t e);
+        workers = worker_of;
+        lists = least (length workers);
+        threads = λ t k l. absurd (no_threads t k l);
+      }
+    where
+      no_threads : (t k : ℕ) → k < 0 → ⊥
+      no_threads t k l = absurd (omega arith)
+
+-- the same of a world made of equal parts
+pub finishing_from : SoundTargets → (script : Script) (words : List (List ℕ)) (workers : List WorkerAt) (book : History) (results : List (List (List StmtResult)))
+    → is_sound script ≡ true → CanFinish script words workers book results → (given : List (List ℕ)) (threads : List (List RunAt)) → given ≡ words → threads ≡ []
+    → IsWorld (record { shared = record { words = given; turn = None; book = book }; workers = workers; threads = threads })
+finishing_from law script words workers book results sound can given threads e f = rw (e, f) (finishing_world law script words workers book results sound can)

@@ -1,44 +1,21 @@
 -- A run has at most as many entries as its script has statements: what each channel has at most is summed over all channels.
-use Rattle.std.proofs.Common.{◌≡◌, ◌≢◌, ◌∙◌, refl, ap, subst, ℕ, zero, suc, ◌+◌, ◌*◌, ◌<◌, ◌≤◌, Bool, true, false, ◌&&◌, ◌==◌, List, [], ◌∷◌, length, map, get_or, Option, None, Some, slice_get, lit≤, arith}
-use Rattle.std.proofs.lemmas.Bool.{and_parts}
-use Rattle.std.proofs.lemmas.Bool.Decides.{nat_tests}
-use Rattle.std.proofs.lemmas.List.Sums.{sum_by-cons}
-use Rattle.std.specs.List.{list_all, sum_by}
-use Rattle.std.specs.Prelude.{nat_le, slice_index}
-use native.Mathlib.Decide.{ℕ_discrete}
-use Rattle.sb_actor.specs.Places.{is_call, or_none, statement_at, statements_of, threads_of}
-use Rattle.sb_actor.specs.ThreadStages.{ThreadStage, Try, Wait, Fetch, Free, Abandon}
-use Rattle.sb_book.specs.Histories.{IsHistory, IsLegalFrom, Setting, setting_of, space_after}
-use Rattle.sb_book.specs.Laws.{AnswersKeepHistories}
-use Rattle.sb_book.specs.declared.entries.Entry.{Entry}
-use Rattle.sb_kernel.specs.Namespaces.{Space}
-use Rattle.sb_kernel.specs.Openings.{opening}
-use Rattle.sb_rule.specs.Verdicts.{policy_at}
-use Rattle.sb_rule.specs.declared.policies.Policy.{Policy}
-use Rattle.sb_statements.specs.Actors.{thread_count}
-use Rattle.sb_statements.specs.Soundness.{SoundStatements, SoundTargets, are_targets, channels_of, is_patience, is_start, is_statement, is_target, is_thread, names_differ}
-use Rattle.sb_statements.specs.declared.results.CallResult.{CallResult}
+use Rattle.std.proofs.Common.{◌≡◌, ◌≢◌, ◌∙◌, refl, ap, subst, ℕ, zero, suc, ◌+◌, ◌*◌, ◌<◌, ◌≤◌, Bool, true, false, ◌&&◌, ◌==◌, List, [], ◌∷◌, length, map, get_or, Option, None, Some, slice_get, lit≤, arith, sym}
+use Rattle.std.proofs.lemmas.List.Sums.{sum_by-le}
+use Rattle.std.specs.List.{sum_by}
+use Rattle.sb_actor.specs.ThreadStages.{Try, Fetch}
 use Rattle.sb_statements.specs.declared.results.CallResult.TheVariants as call
-use Rattle.sb_statements.specs.declared.results.StmtResult.{StmtResult}
 use Rattle.sb_statements.specs.declared.results.StmtResult.TheVariants as result
-use Rattle.sb_statements.specs.declared.scripts.Script.{Script}
-use Rattle.sb_statements.specs.declared.scripts.TargetScript.{TargetScript}
-use Rattle.sb_statements.specs.declared.statements.Statement.{Statement}
 use Rattle.sb_statements.specs.declared.statements.Statement.TheVariants as statement
-use Rattle.sb_core.specs.Drains.{drained}
-use Rattle.sb_core.specs.EntryCounts.{RunsHaveFewEntries, StatementsAreFew, WorldsHaveFewEntries, statement_count, statements_in}
-use Rattle.sb_core.specs.Kept.{IsAtStatement, IsRunOf, IsRunning, IsWorld, is_calling}
-use Rattle.sb_core.specs.Runs.{ended, played}
-use Rattle.sb_core.specs.Tallies.{ends_call, ends_on, entries_on, has_sent, one_if, tally_all, tally_from, tally_of, tally_row, tally_so_far}
-use Rattle.sb_core.specs.Threads.{RunAt, first_unfinished, no_run}
-use Rattle.sb_core.specs.Worlds.{WorldAt, run_at, start_world, threads_at}
+use Rattle.sb_core.specs.Runs.{ended}
 use Rattle.sb_core.proofs.Belonging.{leads_of, of_end, of_run, of_runs}
 use Rattle.sb_core.proofs.Reaching.{good_on}
-use Rattle.sb_core.proofs.RunLaws.{good_start}
 use Rattle.sb_core.proofs.Tallying.{worlds_are_few}
-use Rattle.sb_core.proofs.Numbers.{itself, self_same}
-
--- ---- sums over the numbers below a limit
+use Rattle.sb_core.proofs.Numbers.{itself, self_same, apart}
+use Rattle.sb_core.proofs.Existence.{channels_from}
+use Rattle.std.proofs.lemmas.List.Elements.{All-from_get_or}
+use Rattle.sb_core.proofs.Names.{Abandon, and_parts, AnswersKeepHistories, CallResult, channels_of, drained, ends_call, ends_on, entries_on, Entry, first_unfinished, Free, has_sent, is_call, is_calling, is_statement, is_target, is_thread, IsAtStatement, IsHistory, IsLegalFrom, IsRunning, IsRunOf, IsWorld, length-map, list_all, nat_le, nat_tests, no_run, one_if, opening, or_none, played, policy_at, run_at, RunAt, RunsHaveFewEntries, Script, Setting, setting_of, slice_get-get_or, slice_index, SoundStatements, SoundTargets, Space, space_after, Statement, statement_at, statement_count, statements_in, statements_of, StatementsAreFew, StmtResult, sum_by-cons, tally_all, tally_from, tally_of, tally_row, tally_so_far, TargetScript, thread_count, threads_at, threads_of, ThreadStage, Wait, WorldAt, WorldsHaveFewEntries, ℕ_discrete}
+use Rattle.sb_core.proofs.Sets.{one_of_all}
+use Rattle.sb_core.proofs.Bounds.{sound_targets, target_threads}
 
 -- the sum of f over the numbers below n
 abbrev upto : ℕ → (ℕ → ℕ) → ℕ
@@ -71,20 +48,15 @@ in_upto (suc n) i f l = by_place (ℕ_discrete i n) (λ m. in_upto n i f m)
     by_place (yes e) rest = let same : f i ≡ f n = ap f e in omega (arith, same)
     by_place (no ne) rest = let before = rest (omega (arith, l, ne)) in omega (arith, before)
 
--- ---- sums over the channels of all targets
-
 abbrev places : ℕ → (ℕ → ℕ) → (ℕ → ℕ → ℕ) → ℕ
 places n many f = upto n (λ t. upto (many t) (f t))
-
-other_number : (a b : ℕ) → a ≢ b → (a == b) ≡ false
-other_number a b ne = grind (arith, nat_tests)
 
 at_most_one : (b : Bool) → one_if b ≤ 1
 at_most_one true = lit≤ tt
 at_most_one false = lit≤ tt
 
 no_hit : (n u : ℕ) → n ≤ u → upto n (λ i. one_if (u == i)) ≡ 0
-no_hit n u l = none_upto n (λ i. one_if (u == i)) (λ i m. ap one_if (other_number u i (λ e. absurd (omega (arith, l, m, e)))))
+no_hit n u l = none_upto n (λ i. one_if (u == i)) (λ i m. ap one_if (apart u i (λ e. absurd (omega (arith, l, m, e)))))
 
 one_hit : (n u : ℕ) → upto n (λ i. one_if (u == i)) ≤ 1
 one_hit zero u = lit≤ tt
@@ -96,7 +68,7 @@ one_hit (suc n) u = by_place (ℕ_discrete u n) (one_hit n u)
         let last = at_most_one (u == n) in
         omega (arith, rest, last)
     by_place (no ne) before =
-        let last : one_if (u == n) ≡ 0 = ap one_if (other_number u n ne) in
+        let last : one_if (u == n) ≡ 0 = ap one_if (apart u n (λ e. ne (sym e))) in
         omega (arith, before, last)
 
 hit_if : (n d : ℕ) (b : Bool) → upto n (λ c. one_if (b && d == c)) ≤ one_if b
@@ -129,10 +101,8 @@ module _ (n : ℕ) (many : ℕ → ℕ) where
       let inner = in_upto (many u) d (λ c. one_if (u == u && d == c)) m in
       let outer = in_upto n u (λ t. upto (many t) (λ c. one_if (u == t && d == c))) l in
       omega (arith, one, inner, outer)
+      -- each entry of a legal history is on one of the channels
 
-  -- ---- entries
-
-  -- each entry of a legal history is on one of the channels
   entries_at : (s : Setting) → length s.policies ≡ n → ((t : ℕ) → slice_index s.channels t ≡ many t) → (ns : Space) (es : List Entry) → IsLegalFrom s ns es
       → length es ≤ places n many (λ t c. entries_on t c es)
   entries_at s e f ns [] h = omega arith
@@ -145,31 +115,29 @@ module _ (n : ℕ) (many : ℕ → ℕ) where
       ∙ both_places (λ t c. one_if (x.target == t && x.channel == c)) (λ t c. entries_on t c es) in
       omega (arith, first, rest, more)
 
--- ---- results
-
 -- it counts for one channel at most
 abbrev IsAtOne : (ℕ → ℕ → ℕ) → Type 0
 IsAtOne f = (u : ℕ) × (d : ℕ) × ((t c : ℕ) → f t c ≤ one_if (u == t && d == c))
 
+no_call : (a : Bool) → one_if (a && false) ≡ 0
+no_call true = refl
+no_call false = refl
+
 none_and : (a b : Bool) → one_if (a && false) ≤ one_if b
-none_and true b = omega arith
-none_and false b = omega arith
+none_and a b = let none = no_call a in omega (arith, none)
 
 with_none : (a m : ℕ) → a ≤ m → a + 0 ≤ m
 with_none a m l = omega (arith, l)
 
 -- tests of a statement that makes a channel ready
 readies : (x a b d e : Bool) → one_if (x && false) + one_if ((a && (b && d)) && e) ≤ one_if (a && b)
-readies true true true true true = lit≤ tt
-readies true true true true false = lit≤ tt
-readies true true true false e = lit≤ tt
-readies true true false d e = lit≤ tt
-readies true false b d e = lit≤ tt
-readies false true true true true = lit≤ tt
-readies false true true true false = lit≤ tt
-readies false true true false e = lit≤ tt
-readies false true false d e = lit≤ tt
-readies false false b d e = lit≤ tt
+readies x a b d e = let none = no_call x in let low = ready_one a b d e in omega (arith, none, low)
+  where
+    ready_one : (a b d e : Bool) → one_if ((a && (b && d)) && e) ≤ one_if (a && b)
+    ready_one true true true e = at_most_one e
+    ready_one true true false e = lit≤ tt
+    ready_one true false d e = lit≤ tt
+    ready_one false b d e = lit≤ tt
 
 call_at_one : (u : ℕ) (r : CallResult) → IsAtOne (λ t c. one_if (u == t && ends_call c r))
 call_at_one u (call.Reply d reply) = (u, d, λ t c. itself (one_if (u == t && d == c)))
@@ -208,10 +176,6 @@ handed _ = 0
 -- what a thread counts for at most: its results, and its present call
 abbrev weight : RunAt → ℕ
 weight x = handed x.thread.stage + length x.results
-
-no_call : (a : Bool) → one_if (a && false) ≡ 0
-no_call true = refl
-no_call false = refl
 
 handed_in : (stage : ThreadStage) → handed stage ≤ one_if (is_calling stage)
 handed_in (Try d rounds all_abandoned) = lit≤ tt
@@ -279,8 +243,6 @@ module _ (n : ℕ) (many : ℕ → ℕ) (script : Script) where
       let sum = sum_by-cons (λ (rs : List RunAt). sum_by weight rs) runs threads in
       omega (arith, first, rest, both, sum)
 
--- ---- statements
-
 -- of two lists of one length, what each element adds is at most what the other's at its place does
 sum_below : {X Y : Type 0} (f : X → ℕ) (g : Y → ℕ) (xs : List X) (ys : List Y) (dx : X) (dy : Y) → length xs ≡ length ys
     → ((i : ℕ) → i < length xs → f (get_or xs i dx) ≤ g (get_or ys i dy)) → sum_by f xs ≤ sum_by g ys
@@ -318,15 +280,6 @@ statements_at_place [] k = refl
 statements_at_place (ss ∷ threads) zero = refl
 statements_at_place (ss ∷ threads) (suc k) = statements_at_place threads k
 
-channels_at_place : (targets : List TargetScript) (t : ℕ) → slice_index (map (λ (target : TargetScript). target.channels) targets) t ≡ channels_of (slice_get targets t)
-channels_at_place [] t = refl
-channels_at_place (target ∷ targets) zero = refl
-channels_at_place (target ∷ targets) (suc t) = channels_at_place targets t
-
-as_many_policies : (policies : List Policy) (targets : List TargetScript) → length (map (λ (target : TargetScript). policy_at policies target.policy) targets) ≡ length targets
-as_many_policies policies [] = refl
-as_many_policies policies (target ∷ targets) = ap suc (as_many_policies policies targets)
-
 -- a thread counts for at most as many entries as it has statements
 thread_weight : (script : Script) (w : WorldAt) (t k : ℕ) → IsRunOf w t k (run_at w t k) → IsAtStatement script (run_at w t k).thread
     → weight (run_at w t k) ≤ length (statements_of script t k)
@@ -357,12 +310,11 @@ module _ (targets : SoundTargets) (statements : SoundStatements) (answers : Answ
   pub worlds_have_few_entries : WorldsHaveFewEntries
   worlds_have_few_entries script w o =
       let keeps = of_runs targets statements script w o in
-      let good = good_on statements answers script (setting_of o.policies script) (start_world o.policies script) w (leads_of script w o)
-      (good_start targets statements o.policies script o.ready) in
+      let good = (good_on targets statements answers o.policies script o.ready w (leads_of script w o)).has in
       let history = subst (λ (z : Setting). IsHistory (record { setting = z; space = w.shared.book.space; entries = w.shared.book.entries })) good.setting_is good.history in
       let many : ℕ → ℕ = λ t. channels_of (slice_get script.targets t) in
       let count = length script.targets in
-      let listed = entries_at count many (setting_of o.policies script) (as_many_policies o.policies script.targets) (channels_at_place script.targets)
+      let listed = entries_at count many (setting_of o.policies script) (length-map script.targets (λ target. policy_at o.policies target.policy)) (channels_from script.targets)
       (opening script.start) w.shared.book.entries history.legal in
       let few = most_places count many (λ t c. entries_on t c w.shared.book.entries) (λ t c. tally_all script t c w.threads)
       (λ t c l m. worlds_are_few targets statements script w o t c l m) in
@@ -377,50 +329,35 @@ module _ (targets : SoundTargets) (statements : SoundStatements) (answers : Answ
       by_end None = worlds_have_few_entries script (drained (played policies script schedule)) (of_end targets statements policies script schedule can)
       by_end (Some thread) = worlds_have_few_entries script (played policies script schedule) (of_run policies script schedule can)
 
--- ---- how many statements there are at most
-
 abbrev are_threads : List TargetScript → List (List Statement) → Bool
 are_threads targets threads = list_all (is_thread targets) threads
 
 few_in_threads : (targets : List TargetScript) (threads : List (List Statement)) → are_threads targets threads ≡ true
     → sum_by (λ statements. length statements) threads ≤ length threads * 4096
-few_in_threads targets [] h = lit≤ tt
-few_in_threads targets (statements ∷ threads) h =
-    let parts = and_parts (is_thread targets statements) (are_threads targets threads) h in
-    let low = (and_parts (nat_le (length statements) 4096) (list_all (is_statement targets) statements) parts.0).0 in
-    let first : length statements ≤ 4096 = grind (arith, nat_tests, low) in
-    let rest = few_in_threads targets threads parts.1 in
-    let more = sum_by-cons (λ (s : List Statement). length s) statements threads in
-    let step : length (statements ∷ threads) * 4096 ≡ length threads * 4096 + 4096 = omega arith in
-    omega (arith, first, rest, more, step)
+few_in_threads targets threads h = sum_by-le (λ (s : List Statement). length s) 4096 threads (All-from_get_or (λ (s : List Statement). length s ≤ 4096) threads [] one)
+  where
+    one : (i : ℕ) → i < length threads → length (get_or threads i []) ≤ 4096
+    one i l =
+        let fits = one_of_all (is_thread targets) threads i (get_or threads i []) h (slice_get-get_or threads i [] l) in
+        let low = (and_parts (nat_le (length (get_or threads i [])) 4096) (list_all (is_statement targets) (get_or threads i [])) fits).0 in
+        grind (arith, nat_tests, low)
 
 few_in_target : (targets : List TargetScript) (target : TargetScript) → is_target targets target ≡ true → statements_in target ≤ 16384
 few_in_target targets target h =
-    let few = nat_le (length target.threads) 4 in
-    let all = and_parts (nat_le 1 target.channels && nat_le target.channels 8 && few) (are_threads targets target.threads) h in
-    let low = (and_parts (nat_le 1 target.channels && nat_le target.channels 8) few all.0).1 in
-    let count : length target.threads ≤ 4 = grind (arith, nat_tests, low) in
-    let sum = few_in_threads targets target.threads all.1 in
+    let few = nat_le 1 target.channels && nat_le target.channels 8 && nat_le (length target.threads) 4 in
+    let count = target_threads targets target h in
+    let sum = few_in_threads targets target.threads (and_parts few (are_threads targets target.threads) h).1 in
     omega (arith, count, sum)
 
 few_in_targets : (targets some : List TargetScript) → list_all (is_target targets) some ≡ true → sum_by statements_in some ≤ length some * 16384
-few_in_targets targets [] h = lit≤ tt
-few_in_targets targets (target ∷ some) h =
-    let parts = and_parts (is_target targets target) (list_all (is_target targets) some) h in
-    let first = few_in_target targets target parts.0 in
-    let rest = few_in_targets targets some parts.1 in
-    let more = sum_by-cons statements_in target some in
-    let step : length (target ∷ some) * 16384 ≡ length some * 16384 + 16384 = omega arith in
-    omega (arith, first, rest, more, step)
+few_in_targets targets some h =
+    sum_by-le statements_in 16384 some
+    (All-from_get_or (λ target. statements_in target ≤ 16384) some no_target
+    (λ i l. few_in_target targets (get_or some i no_target) (one_of_all (is_target targets) some i (get_or some i no_target) h (slice_get-get_or some i no_target l))))
 
 pub statements_are_few : StatementsAreFew
 statements_are_few script h =
-    let few = nat_le (length script.start) 4096 in
-    let starts = list_all is_start script.start in
-    let each = list_all (is_target script.targets) script.targets in
-    let targets = (and_parts (is_patience script.patience && few && starts) (are_targets script.targets) h).1 in
-    let parts = and_parts (nat_le (length script.targets) 8 && names_differ script.targets) each targets in
-    let low = (and_parts (nat_le (length script.targets) 8) (names_differ script.targets) parts.0).0 in
-    let count : length script.targets ≤ 8 = grind (arith, nat_tests, low) in
+    let parts = sound_targets script h in
+    let count = parts.0 in
     let sum = few_in_targets script.targets script.targets parts.1 in
     omega (arith, count, sum)

@@ -1,60 +1,48 @@
 -- A run without an unfinished thread fits.
-use Rattle.std.proofs.Common.{◌≡◌, ◌∙◌, refl, ap, subst, sym, ℕ, zero, suc, ◌+◌, ◌*◌, ◌/◌, ◌<◌, ◌≤◌, Bool, true, false, cond, not, ltb, ◌&&◌, ◌==◌, List, [], ◌∷◌, ◌++◌, length, map, get_or, Option, None, Some, slice_get, arith}
-use Rattle.std.proofs.Math.ListN.{get_or-map}
-use Rattle.std.proofs.lemmas.Bool.{and_parts}
-use Rattle.std.proofs.lemmas.Bool.Decides.{nat_tests}
-use Rattle.std.proofs.lemmas.List.{append-nil}
-use Rattle.std.specs.List.{filter, list_all}
-use Rattle.std.specs.Prelude.{slice_index}
+use Rattle.std.proofs.Common.{◌≡◌, ◌∙◌, refl, ap, subst, sym, ℕ, zero, suc, ◌+◌, ◌*◌, ◌/◌, ◌<◌, ◌≤◌, Bool, true, false, cond, not, ◌&&◌, ◌==◌, List, [], ◌∷◌, ◌++◌, length, map, get_or, Option, None, Some, slice_get, arith, lit≤}
 use mathlib.Core.Option.{some, some-ne-none}
 use lib.ListN.{get_elem?}
-use Rattle.sb_actor.specs.Fitting.{Suits}
-use Rattle.sb_actor.specs.Moves.{at, is_clean, no_call}
-use Rattle.sb_actor.specs.Places.{clean_channels, mark_at, statement_at, statements_of}
-use Rattle.sb_actor.specs.Rule.{Chan, FitsThread, Mid, acked, as_served, calls_of, filling, idle, is_of, owner, place, ready, row, sees, waiting}
-use Rattle.sb_actor.specs.Ties.{thread_place_of}
-use Rattle.sb_actor.specs.WorkerStages.{WorkerStage, WorkerAt, Look}
-use Rattle.sb_actor.specs.WorkerTable.{is_looking}
-use Rattle.sb_actor.specs.Views.{Had, Served, ThreadPlace}
-use Rattle.sb_block.specs.Copies.{mark_of}
-use Rattle.sb_block.specs.Replies.{RepliesComeBack, read_reply}
-use Rattle.sb_book.specs.Histories.{IsHistory, setting_of}
-use Rattle.sb_book.specs.Laws.{AnswersKeepHistories}
-use Rattle.sb_book.specs.declared.entries.Entry.{Entry}
-use Rattle.sb_call.specs.declared.replies.Reply.{Reply as ReplyOf}
-use Rattle.sb_kernel.specs.Laws.{AnswersAreShort}
-use Rattle.sb_kernel.specs.Openings.{opening}
-use Rattle.sb_rule.specs.declared.policies.Policy.{Policy}
-use Rattle.sb_statements.specs.Actors.{thread_count}
-use Rattle.sb_statements.specs.Soundness.{SoundStatements, SoundTargets, channels_of}
-use Rattle.sb_statements.specs.declared.results.StmtResult.{StmtResult}
-use Rattle.sb_statements.specs.declared.schedules.Schedule.{Schedule}
-use Rattle.sb_statements.specs.declared.scripts.Script.{Script}
-use Rattle.sb_statements.specs.declared.scripts.TargetScript.{TargetScript}
-use Rattle.sb_statements.specs.declared.statements.Statement.{Statement}
-use Rattle.sb_core.specs.Drains.{drained, is_settled}
-use Rattle.sb_core.specs.Fits.{Answered, Fits, OwnReplies, ResultsSuit, RunsFit, by_entry, by_result, is_entry_of}
+use Rattle.sb_core.proofs.Names.{has_reply, and_parts, AnswersAreShort, AnswersKeepHistories, append-nil, AreAllResults, AreViews, as_call, as_own, as_served, at, by_entry, by_result, calls_at, calls_of, CanRun, ChannelInvariant, channels_of, clean_channels, Decision, drained, DrainsSettle, Entry, filling, filter, first_unfinished, Fits, FitsThread, get_or-map, EndedCall, idle, in_work, is_entry_of, is_looking, is_of, is_of_target, is_settled, IsHistory, IsLegalFrom, list_all, Look, mark_at, mark_of, Owner, no_call, no_run, no_worker, opening, own_calls, OwnCall, owner_of, OwnReplies, Performed, place, played, Policy, read_reply, Refused, RepliesComeBack, reply_of, results_of, ResultsSuit, row, RuleLaws, run_at, RunAt, RunsFit, Schedule, Script, sees, Served, Setting, setting_of, slice_get-get_or, slice_index, some_ready, SoundStatements, SoundTargets, Space, space_after, statements_of, StmtResult, Suits, TargetViews, thread_count, thread_place_of, ThreadPlace, threads_at, waiting, words_of, worker_at, WorkerAt, WorkerStage, WorldAt}
+use Rattle.sb_actor.specs.Moves.{is_clean}
+use Rattle.sb_actor.specs.Rule.{sent}
+use Rattle.sb_call.specs.declared.replies.Reply.{Reply as ReplyOf, Reply}
+use Rattle.sb_core.specs.Fits.{Answered}
 use Rattle.sb_core.specs.Fits.{results_at as results_in}
-use Rattle.sb_core.specs.Laws.{DrainsSettle}
-use Rattle.sb_core.specs.Reports.{results_of}
-use Rattle.sb_core.specs.Results.{AreAllResults}
-use Rattle.sb_core.specs.Runs.{CanRun, ended, played}
-use Rattle.sb_core.specs.Threads.{RunAt, first_unfinished, no_run}
-use Rattle.sb_book.specs.Targets.{is_of_target}
-use Rattle.sb_core.specs.Views.{AreViews, OwnCall, TargetViews, as_call, as_own, calls_at, in_work, own_calls}
-use Rattle.sb_core.specs.Words.{some_ready, words_of}
-use Rattle.sb_core.specs.Worlds.{WorldAt, no_worker, run_at, threads_at, worker_at}
-use Rattle.sb_core.proofs.PlacedUnits.{units_are_placed}
-use Rattle.sb_core.proofs.Draining.{drained_threads}
+use Rattle.sb_core.specs.Runs.{ended}
+use Rattle.sb_core.proofs.Beginning.{drained_threads}
 use Rattle.sb_core.proofs.Judging.{none_behind, over_is}
-use Rattle.sb_core.proofs.Belonging.{of_end, of_run}
-use Rattle.sb_core.proofs.RunLaws.{each_finished, finished_runs_are_whole, good_end, no_run_past, results_at, runs_are_legal, runs_keep_words}
+use Rattle.sb_core.proofs.Belonging.{of_end, of_run, Keeps}
+use Rattle.sb_core.proofs.RunLaws.{each_finished, finished_runs_are_whole, good_end, runs_are_legal, runs_keep_words, of_report}
 use Rattle.sb_core.proofs.Ruling.{Ruled, ruled_of}
-use Rattle.sb_core.proofs.ViewSteps.{RuleLaws}
-use Rattle.sb_core.proofs.Short.{AreShort, legal_short}
 use Rattle.sb_core.proofs.Starting.{clean_length}
-use Rattle.sb_core.proofs.There.{as_many}
-use Rattle.sb_core.proofs.Numbers.{none_of, self_same}
+use Rattle.sb_core.proofs.Existence.{as_many, listed, some_target}
+use Rattle.sb_core.proofs.Numbers.{self_same}
+use Rattle.sb_core.proofs.Sets.{one_of_all}
+use Rattle.sb_block.specs.declared.faults.BlockFault.{BlockFault}
+use Rattle.sb_block.specs.declared.faults.BlockFault.TheVariants.{TooManyParams}
+use Rattle.sb_book.specs.Replies.{fault_words}
+
+-- each reply has at most seven extended words
+abbrev pub AreShort : List Entry → Type 0
+AreShort [] = Unit {0}
+AreShort (e ∷ entries) = (length e.reply.ext ≤ 7) × AreShort entries
+
+fault_short : (f : BlockFault) → length (fault_words f) ≤ 7
+fault_short (TooManyParams n) = lit≤ tt
+fault_short _ = lit≤ tt
+
+module _ (answers : AnswersAreShort) where
+  reply_short : (ns : Space) (target mark : ℕ) (d : Decision) → length (reply_of ns target mark d).ext ≤ 7
+  reply_short ns target mark (Refused f) = fault_short f
+  reply_short ns target mark (Performed tag line action args) = answers ns target tag args
+  reply_short ns target mark _ = lit≤ tt
+
+  pub legal_short : (s : Setting) (ns : Space) (entries : List Entry) → IsLegalFrom s ns entries → AreShort entries
+  legal_short s ns [] h = tt
+  legal_short s ns (e ∷ entries) h = (
+    subst (λ (r : Reply). length r.ext ≤ 7) (sym h.0.replied) (reply_short ns e.target (mark_of e.taken) e.decision),
+    legal_short s (space_after ns e.target e.decision) entries h.1,
+  )
 
 -- a served call, its reply read
 abbrev pub read : Served → Answered
@@ -89,9 +77,9 @@ served_entries come script t k (e ∷ entries) short = by_target (e.target == t)
         ∙ ap (λ b. map by_entry (cond (b && is_of (clean_channels script t) k (as_call e)) (e ∷ filter (is_entry_of script t k) entries) (filter (is_entry_of script t k) entries))) (sym f))
 
 -- and by what the thread had
-pub had_results : (had : List Had) → map read (map as_served had) ≡ map by_result (map as_own had)
+pub had_results : (ended_calls : List EndedCall) → map read (map as_served ended_calls) ≡ map by_result (map as_own ended_calls)
 had_results [] = refl
-had_results (x ∷ had) = ap (λ (z : List Answered). by_result (as_own x) ∷ z) (had_results had)
+had_results (x ∷ ended_calls) = ap (λ (z : List Answered). by_result (as_own x) ∷ z) (had_results ended_calls)
 
 -- an entry is among the calls of its target
 pub entry_listed : (t : ℕ) (entries : List Entry) (i : ℕ) (e : Entry) → slice_get entries i ≡ Some e → (e.target == t) ≡ true → (n : ℕ) × (get_elem? (calls_at t entries) n ≡ some (as_call e))
@@ -117,9 +105,7 @@ none_in_work c _ e = absurd (cc)
 
 -- what holds of each holds at each place
 each_of : {X : Type 0} (p : X → Bool) (xs : List X) (d : X) → list_all p xs ≡ true → (i : ℕ) → i < length xs → p (get_or xs i d) ≡ true
-each_of p [] d e i l = absurd (omega (arith, l))
-each_of p (x ∷ xs) d e zero l = (and_parts (p x) (list_all p xs) e).0
-each_of p (x ∷ xs) d e (suc i) l = each_of p xs d (and_parts (p x) (list_all p xs) e).1 i (omega (arith, l))
+each_of p xs d e i l = one_of_all p xs i (get_or xs i d) e (slice_get-get_or xs i d l)
 
 -- a target whose worker looks and whose threads are outside calls
 module _ (script : Script) (t : ℕ) (words : List ℕ) (entries : List Entry) (x : WorkerAt) (runs : List RunAt) (views : TargetViews)
@@ -139,41 +125,41 @@ module _ (script : Script) (t : ℕ) (words : List ℕ) (entries : List Entry) (
   own_results k l =
       let view = h.threads k l in
       let v = view.0 in
-      let fits : FitsThread clean h.rule.mids views.worker.served k v = h.rule.fits k v view.1 in
+      let fits : FitsThread clean h.rule.owners views.worker.served k v = h.rule.fits k v view.1 in
       let away : v.place ≡ no_call = view.2.holds.place ∙ outside k l in
       let number : v.number ≡ k = view.2.holds.number ∙ numbers k l in
-      let calls : calls_of clean k (calls_at t entries) ≡ map as_served v.had =
+      let calls : calls_of clean k (calls_at t entries) ≡ map as_served v.ended_calls =
       ap (λ (z : ℕ × List Served). calls_of clean z.0 z.1) (λ j. (sym number j, sym all_served j))
-      ∙ (fits.calls ∙ ap (λ (z : List Had). map as_served z) (ap (λ (p : ThreadPlace). v.had ++ waiting clean h.rule.mids (place p)) away ∙ append-nil v.had)) in
-      sym (served_entries come script t k entries short) ∙ (ap (λ (z : List Served). map read z) calls ∙ (had_results v.had ∙ ap (λ (z : List OwnCall). map by_result z) view.2.has))
+      ∙ (fits.calls ∙ ap (λ (z : List EndedCall). map as_served z) (ap (λ (p : ThreadPlace). v.ended_calls ++ waiting clean h.rule.owners (place p)) away ∙ append-nil v.ended_calls)) in
+      sym (served_entries come script t k entries short) ∙ (ap (λ (z : List Served). map read z) calls ∙ (had_results v.ended_calls ∙ ap (λ (z : List OwnCall). map by_result z) view.2.has))
 
   -- each entry on a clean channel is one of a thread
   pub one_of_thread : (i : ℕ) (e : Entry) → slice_get entries i ≡ Some e → (e.target == t) ≡ true → is_clean clean e.channel ≡ true
       → (k : ℕ) × (k < length runs) × (mark_of e.taken / 65536 ≡ k + 1)
   one_of_thread i e q f cl =
       let listed = entry_listed t entries i e q f in
-      let borne = h.rule.fits_worker.borne listed.0 (as_call e) (subst (λ (z : List Served). get_elem? z listed.0 ≡ some (as_call e)) (sym all_served) listed.1) cl in
-      (borne.0, subst (λ n. borne.0 < n) h.many borne.1, borne.2)
+      let of_threads = h.rule.fits_worker.of_threads listed.0 (as_call e) (subst (λ (z : List Served). get_elem? z listed.0 ≡ some (as_call e)) (sym all_served) listed.1) cl in
+      (of_threads.0, subst (λ n. of_threads.0 < n) h.many of_threads.1, of_threads.2)
 
   -- each clean channel is free
   pub freed : (c : ℕ) → is_clean clean c ≡ true → slice_index words (at c 0) ≡ 1
-  freed c cl = by_mid (h.rule.mids c) refl (h.rule.chans c cl)
+  freed c cl = by_mid (h.rule.owners c) refl (h.rule.each_channel c cl)
     where
-      nobody : (k : ℕ) → owner (h.rule.mids c) ≡ some k → ⊥
+      nobody : (k : ℕ) → owner_of (h.rule.owners c) ≡ some k → ⊥
       nobody k e =
-          let low : k < length runs = subst (λ n. k < n) h.many (h.rule.fits_worker.owners c k cl e) in
+          let low : k < length runs = subst (λ n. k < n) h.many (h.rule.fits_worker.owners_there c k cl e) in
           let view = h.threads k low in
           let v = view.0 in
-          let fits : FitsThread clean h.rule.mids views.worker.served k v = h.rule.fits k v view.1 in
+          let fits : FitsThread clean h.rule.owners views.worker.served k v = h.rule.fits k v view.1 in
           let number : v.number ≡ k = view.2.holds.number ∙ numbers k low in
           let there = fits.only c cl (e ∙ ap (λ z. some z) (sym number)) in
           some-ne-none c (sym there ∙ ap (λ (p : ThreadPlace). place p) (view.2.holds.place ∙ outside k low))
 
-      by_mid : (m : Mid) → h.rule.mids c ≡ m → Chan (h.rule.mids c) (sees c views.worker) (row words c) → slice_index words (at c 0) ≡ 1
-      by_mid idle e q = (subst (λ z. Chan z (sees c views.worker) (row words c)) e q).0
-      by_mid (filling k ws) e q = absurd (nobody k (ap (λ z. owner z) e))
-      by_mid (ready k block) e q = absurd (nobody k (ap (λ z. owner z) e))
-      by_mid (acked k block reply) e q = absurd (nobody k (ap (λ z. owner z) e))
+      by_mid : (m : Owner) → h.rule.owners c ≡ m → ChannelInvariant (h.rule.owners c) (sees c views.worker) (row words c) → slice_index words (at c 0) ≡ 1
+      by_mid idle e q = (subst (λ z. ChannelInvariant z (sees c views.worker) (row words c)) e q).0
+      by_mid (filling k ws) e q = absurd (nobody k (ap (λ z. owner_of z) e))
+      by_mid (sent k block) e q = absurd (nobody k (ap (λ z. owner_of z) e))
+      by_mid (has_reply k block reply) e q = absurd (nobody k (ap (λ z. owner_of z) e))
 
 -- the world at the end of a run without an unfinished thread
 module _ (laws : RuleLaws) (targets : SoundTargets) (statements : SoundStatements) (answers : AnswersKeepHistories) (settles : DrainsSettle) (come : RepliesComeBack) (answered : AnswersAreShort) (policies : List Policy) (script : Script)
@@ -184,11 +170,11 @@ module _ (laws : RuleLaws) (targets : SoundTargets) (statements : SoundStatement
   abbrev w : WorldAt
   w = drained before
 
-  was : Ruled script before
-  was = ruled_of laws targets statements script (units_are_placed script can.ready.units) before (of_run policies script schedule can)
+  was : Keeps script (Ruled script) before
+  was = ruled_of laws targets statements script before (of_run policies script schedule can)
 
-  is : Ruled script w
-  is = ruled_of laws targets statements script (units_are_placed script can.ready.units) w (of_end targets statements policies script schedule can)
+  is : Keeps script (Ruled script) w
+  is = ruled_of laws targets statements script w (of_end targets statements policies script schedule can)
 
   same_threads : w.threads ≡ before.threads
   same_threads = drained_threads before
@@ -203,7 +189,7 @@ module _ (laws : RuleLaws) (targets : SoundTargets) (statements : SoundStatement
   short : AreShort w.shared.book.entries
   short =
       legal_short answered w.shared.book.setting (opening w.shared.book.setting.start) w.shared.book.entries
-      (good_end targets statements answers policies script schedule can).history.legal
+      (good_end targets statements answers policies script schedule can).has.history.legal
 
   settled : is_settled w ≡ true
   settled = settles before was.kept
@@ -218,25 +204,16 @@ module _ (laws : RuleLaws) (targets : SoundTargets) (statements : SoundStatement
 
   -- a thread of the script is one of a target that is there
   of_target : (t k : ℕ) → k < thread_count (slice_get script.targets t) → t < length script.targets
-  of_target t k l = some_target script.targets t l
-    where
-      some_target : (targets : List TargetScript) (t : ℕ) → k < thread_count (slice_get targets t) → t < length targets
-      some_target [] t l = absurd (omega (arith, l))
-      some_target (target ∷ targets) zero l = omega arith
-      some_target (target ∷ targets) (suc t) l = let m = some_target targets t l in omega (arith, m)
+  of_target t k l = subst (λ n. t < n) is.runs.targets (listed w.threads t k (subst (λ n. k < n) (sym (is.runs.threads t)) l))
 
   -- and so is a clean channel
   of_channel : (t c : ℕ) → is_clean (clean_channels script t) c ≡ true → t < length script.targets
-  of_channel t c e = some_target script.targets t (positive (clean_channels script t) c e (clean_length script t (channels_of (slice_get script.targets t))))
+  of_channel t c e =
+      some_target script.targets t 0 (subst (λ n. 0 < n) (clean_length script t (channels_of (slice_get script.targets t))) (positive (clean_channels script t) c e))
     where
-      positive : (clean : List Bool) (c : ℕ) → is_clean clean c ≡ true → length clean ≡ channels_of (slice_get script.targets t) → 0 < channels_of (slice_get script.targets t)
-      positive [] c e f = absurd (cc)
-      positive (b ∷ clean) c e f = omega (arith, f)
-
-      some_target : (targets : List TargetScript) (t : ℕ) → 0 < channels_of (slice_get targets t) → t < length targets
-      some_target [] t l = absurd (omega (arith, l))
-      some_target (target ∷ targets) zero l = omega arith
-      some_target (target ∷ targets) (suc t) l = let m = some_target targets t l in omega (arith, m)
+      positive : (clean : List Bool) (c : ℕ) → is_clean clean c ≡ true → 0 < length clean
+      positive [] c e = absurd (cc)
+      positive (b ∷ clean) c e = omega arith
 
   results_same : (t k : ℕ) → (run_at w t k).results ≡ results_in (results_of before.threads) t k
   results_same t k =
@@ -248,36 +225,26 @@ module _ (laws : RuleLaws) (targets : SoundTargets) (statements : SoundStatement
   own_replies = record {
     own = λ t k l.
         let low = there t (of_target t k l) in
-        let v = is.rule t low in
+        let v = is.has.rule t low in
         let m : k < length (threads_at w t) = subst (λ n. k < n) (sym (is.runs.threads t)) l in
         own_results script t (words_of w.shared.words t) w.shared.book.entries (worker_at w t) (threads_at w t) v.0 v.1 come short (looking t low)
         (λ j q. (is.kept.threads t j q).its_number) (λ j q. each_over t j q) k m
         ∙ ap (λ (z : List StmtResult). map by_result (own_calls script t k z)) (results_same t k);
     others = λ i e q cl.
         let low = there e.target (of_channel e.target e.channel cl) in
-        let v = is.rule e.target low in
+        let v = is.has.rule e.target low in
         let one = one_of_thread script e.target (words_of w.shared.words e.target) w.shared.book.entries (worker_at w e.target) (threads_at w e.target) v.0 v.1 come short (looking e.target low)
         (λ j q. (is.kept.threads e.target j q).its_number) (λ j q. each_over e.target j q) i e q (self_same e.target) cl in
         (one.0, subst (λ n. one.0 < n) (is.runs.threads e.target) one.1, one.2);
   }
 
   suit : ResultsSuit script (results_of before.threads)
-  suit t k i r e = by_test (ltb k (length (threads_at before t))) refl
-    where
-      found : slice_get (run_at before t k).results i ≡ Some r
-      found = sym (results_at before.threads t k i) ∙ e
-
-      by_test : (b : Bool) → ltb k (length (threads_at before t)) ≡ b
-          → (s : Statement) × (statement_at script t k i ≡ Some s) × Suits (clean_channels script t) (mark_at k i) s r
-      by_test true f = let low : k < length (threads_at before t) = grind (arith, nat_tests) in was.suits t k low i r found
-      by_test false f =
-          let past : length (threads_at before t) ≤ k = grind (arith, nat_tests) in
-          absurd (none_of i r (ap (λ (x : RunAt). slice_get x.results i) (sym (no_run_past (threads_at before t) k past)) ∙ found))
+  suit = of_report (λ t k i s r. Suits (clean_channels script t) (mark_at k i) s r) script before.threads was.has.suits
 
   freed_channels : (t c : ℕ) → t < length script.targets → is_clean (clean_channels script t) c ≡ true → slice_index (words_of w.shared.words t) (at c 0) ≡ 1
   freed_channels t c l cl =
       let low = there t l in
-      let v = is.rule t low in
+      let v = is.has.rule t low in
       freed script t (words_of w.shared.words t) w.shared.book.entries (worker_at w t) (threads_at w t) v.0 v.1 come short (looking t low)
       (λ j q. (is.kept.threads t j q).its_number) (λ j q. each_over t j q) c cl
 

@@ -1,14 +1,12 @@
 -- Folds of steps, one step at a time.
-use Rattle.std.proofs.Common.{◌≡◌, ℕ, zero, suc, ◌+◌, true, false, List, [], ◌∷◌, replicate, slice_get, refl, sym, ◌∙◌, ◌-◌, ◌<◌, arith, ap}
+use Rattle.std.proofs.Common.{◌≡◌, ℕ, zero, suc, ◌+◌, true, false, List, [], ◌∷◌, replicate, slice_get, refl, sym, ◌∙◌, ◌-◌, ◌<◌, arith, ap, Bool}
 use native.Mathlib.Numerals.{unary_clauses}
-use Rattle.sb_statements.specs.Actors.{thread_count}
-use Rattle.sb_statements.specs.declared.schedules.Actor.{Actor}
-use Rattle.sb_statements.specs.declared.schedules.Actor.TheVariants.{Thread, Worker}
-use Rattle.sb_statements.specs.declared.scripts.Script.{Script}
-use Rattle.sb_core.specs.Actors.{first_actors, first_threads, scheduled, target_actors}
-use Rattle.sb_core.specs.Drains.{is_settled, pass_below, one_pass, drained_by}
-use Rattle.sb_core.specs.Laws.{OrdersAreSchedules, StepsAreFolds}
-use Rattle.sb_core.specs.Worlds.{WorldAt, all_finished, round, rounds, step, steps, worker_step}
+use Rattle.sb_core.proofs.Names.{Actor, all_finished, drained_by, first_actors, first_threads, is_settled, one_pass, OrdersAreSchedules, pass_below, round, rounds, scheduled, Script, step, steps, StepsAreFolds, target_actors, Thread, thread_count, Worker, worker_step, WorldAt}
+
+-- what holds of both worlds holds of the one that is chosen
+pub chosen : (P : WorldAt → Type 0) (b : Bool) (u v : WorldAt) → (b ≡ true → P u) → (b ≡ false → P v) → P (elim b [ true ↦ u | false ↦ v ])
+chosen P true u v f g = f refl
+chosen P false u v f g = g refl
 
 pub steps_append : StepsAreFolds
 steps_append script [] later w = refl

@@ -1,24 +1,8 @@
 -- Laws that are read off the tables: a worker judges what it copied, the turn is where the stages say, and a finished thread stays.
-use Rattle.std.proofs.Common.{◌≡◌, ◌∙◌, ◌⊎◌, inl, inr, refl, ap, subst, sym, ℕ, zero, suc, ◌+◌, Bool, true, false, ◌==◌, if◌then◌else◌, List, [], ◌∷◌, length, set, Some, is_none, slice_get, arith}
-use Rattle.std.proofs.lemmas.Bool.Decides.{nat_tests}
-use Rattle.std.proofs.lemmas.List.{append-nil}
-use Rattle.std.specs.Prelude.{nat_le}
-use Rattle.sb_actor.specs.Acts.{turn_in}
-use Rattle.sb_actor.specs.Places.{statements_of}
-use Rattle.sb_actor.specs.ThreadStages.{ThreadStage, Over}
-use Rattle.sb_actor.specs.WorkerStages.{WorkerStage, WorkerAt}
+use Rattle.std.proofs.Common.{◌≡◌, ◌∙◌, ◌⊎◌, inl, inr, refl, ap, subst, sym, ℕ, zero, suc, ◌+◌, Bool, true, false, ◌==◌, if◌then◌else◌, List, [], ◌∷◌, length, set, Some, is_none, slice_get, arith, ◌<◌}
+use Rattle.std.specs.Prelude.{◌&&◌, slice_index_or, Option, None}
+use Rattle.sb_core.proofs.Names.{all_finished, all_over, answered, append-nil, are_over, Copied, CopiesAreAnswered, CopiesAreJudged, copy_in, FinishedThreadsStay, first_unfinished, is_finished, is_holder, is_load, is_over, IsAtStatement, IsRunning, list_all, nat_le, nat_tests, no_run, Observation, on_worker, or_else, Over, run_at, RunAt, Script, SharedAt, statements_of, target_decision, thread_goes, thread_step, threads_at, ThreadStage, ThreadStep, turn_in, TurnsAreHeld, unfinished_of, worker_after, worker_at, worker_plan, WorkerAt, WorkerStage, WorldAt}
 use Rattle.sb_actor.specs.WorkerStages as worker
-use Rattle.sb_actor.specs.WorkerTable.{worker_after, worker_plan}
-use Rattle.sb_actor.specs.Observations.{Observation}
-use Rattle.sb_block.specs.Copies.{Copied}
-use Rattle.sb_book.specs.Histories.{answered, target_decision}
-use Rattle.sb_statements.specs.declared.scripts.Script.{Script}
-use Rattle.sb_core.specs.Changes.{is_load}
-use Rattle.sb_core.specs.Kept.{is_holder, is_over}
-use Rattle.sb_core.specs.Laws.{CopiesAreJudged, FinishedThreadsStay, CopiesAreAnswered, TurnsAreHeld, copy_in}
-use Rattle.sb_core.specs.Shared.{SharedAt, on_worker}
-use Rattle.sb_core.specs.Threads.{RunAt, ThreadStep, no_run, thread_step}
-use Rattle.sb_core.specs.Worlds.{run_at, thread_goes, threads_at, worker_at}
 use Rattle.sb_core.proofs.Sets.{set_same}
 
 -- a choice between two stages with one copy
@@ -84,3 +68,58 @@ finished_threads_stay script w t k runs there e =
     same_threads x =
         ap (λ (row : List RunAt). set w.threads t row) (set_same (threads_at w t) k (run_at w t k) no_run refl)
         ∙ set_same w.threads t (threads_at w t) [] refl
+
+-- two tests that pass together are the same
+pub same_test : (a b : Bool) → (a ≡ true → b ≡ true) → (b ≡ true → a ≡ true) → a ≡ b
+same_test true true f g = refl
+same_test true false f g = sym (f refl)
+same_test false true f g = g refl
+same_test false false f g = refl
+
+-- nothing is at a place exactly if the list ends before it
+ends_before : {X : Type 0} (xs : List X) (i : ℕ) → is_none (slice_get xs i) ≡ nat_le (length xs) i
+ends_before [] i = sym (grind (arith, nat_tests))
+ends_before (x ∷ xs) zero = sym (grind (arith, nat_tests))
+ends_before (x ∷ xs) (suc i) = ends_before xs i ∙ same_test (nat_le (length xs) i) (nat_le (length (x ∷ xs)) (suc i))
+    (λ e. grind (arith, nat_tests, e)) (λ e. grind (arith, nat_tests, e))
+
+over_finished : (script : Script) (x : RunAt) → IsAtStatement script x.thread → is_over x.thread.stage ≡ is_finished script x.thread
+over_finished script x h = h.over ∙ ends_before (statements_of script x.thread.target x.thread.thread) x.thread.place
+
+-- one thread, and those after it
+by_thread : (over ended rest : Bool) (first : ℕ × ℕ) (later : Option (ℕ × ℕ)) → over ≡ ended → rest ≡ is_none later
+    → (over && rest) ≡ is_none (if ended then later else Some first)
+by_thread over ended rest first later one more =
+    subst (λ (o : Bool). (o && rest) ≡ is_none (if ended then later else Some first)) (sym one) (by_end ended)
+  where
+    by_end : (e : Bool) → (e && rest) ≡ is_none (if e then later else Some first)
+    by_end true = more
+    by_end false = refl
+
+-- threads of a target
+runs_over : (script : Script) (xs : List RunAt) → ((k : ℕ) → k < length xs → IsAtStatement script (slice_index_or xs k no_run).thread)
+    → are_over xs ≡ is_none (unfinished_of script xs)
+runs_over script [] h = refl
+runs_over script (x ∷ xs) h =
+    by_thread (is_over x.thread.stage) (is_finished script x.thread) (are_over xs) (x.thread.target, x.thread.thread) (unfinished_of script xs)
+    (over_finished script x (h zero (omega arith))) (runs_over script xs (λ k i. h (suc k) (omega (arith, i))))
+
+-- one target, and those after it
+by_target : (over rest : Bool) (found later : Option (ℕ × ℕ)) → over ≡ is_none found → rest ≡ is_none later → (over && rest) ≡ is_none (or_else found later)
+by_target over rest found later one more = subst (λ (o : Bool). (o && rest) ≡ is_none (or_else found later)) (sym one) (by_first found)
+  where
+    by_first : (o : Option (ℕ × ℕ)) → (is_none o && rest) ≡ is_none (or_else o later)
+    by_first None = more
+    by_first (Some first) = refl
+
+-- threads of all targets
+targets_over : (script : Script) (xss : List (List RunAt))
+    → ((t k : ℕ) → k < length (slice_index_or xss t []) → IsAtStatement script (slice_index_or (slice_index_or xss t []) k no_run).thread)
+    → list_all (λ xs. are_over xs) xss ≡ is_none (first_unfinished script xss)
+targets_over script [] h = refl
+targets_over script (xs ∷ xss) h =
+    by_target (are_over xs) (list_all (λ ys. are_over ys) xss) (unfinished_of script xs) (first_unfinished script xss)
+    (runs_over script xs (λ k i. h zero k i)) (targets_over script xss (λ t k i. h (suc t) k i))
+
+pub finished_by_stage : (script : Script) (w : WorldAt) → IsRunning script w → all_over w ≡ all_finished script w
+finished_by_stage script w h = targets_over script w.threads h.stands

@@ -1,7 +1,6 @@
 -- Tests of numbers, options and sums.
-use Rattle.std.proofs.Common.{◌≡◌, ◌≢◌, ℕ, ◌≤◌, ◌<◌, ◌==◌, true, false, Option, None, Some, [], slice_get, arith}
-use Rattle.std.proofs.lemmas.Bool.Decides.{nat_tests}
-use Rattle.std.specs.Prelude.{nat_lt}
+use Rattle.std.proofs.Common.{◌≡◌, ◌≢◌, ℕ, ◌≤◌, ◌<◌, ◌==◌, true, false, Option, None, Some, [], slice_get, arith, ◌+◌}
+use Rattle.sb_core.proofs.Names.{nat_lt, nat_tests}
 
 pub self_same : (x : ℕ) → (x == x) ≡ true
 self_same x = grind (arith, nat_tests)
@@ -31,3 +30,13 @@ some_same x y e = cc
 
 pub none_of : {X : Type 0} (i : ℕ) (x : X) → ◌≡◌ {A = Option X} (slice_get [] i) (Some x) → ⊥
 none_of i x e = cc
+
+-- sums that begin or end with 0
+pub plus_none : (n : ℕ) → n ≡ n + 0
+plus_none n = omega arith
+
+pub from_zero : (a b : ℕ) → a ≡ b → b ≡ 0 + a
+from_zero a b e = omega (arith, e)
+
+pub least : (n : ℕ) → 0 ≤ n
+least n = omega arith

@@ -1,29 +1,13 @@
 -- Before the first step each target keeps the rule.
 use Rattle.std.proofs.Common.{◌≡◌, ◌∙◌, refl, ap, subst, sym, ℕ, zero, suc, ◌+◌, ◌-◌, ◌*◌, ◌%◌, ◌<◌, ◌≤◌, Bool, true, false, ltb, ◌==◌, if◌then◌else◌, List, [], ◌∷◌, ◌++◌, length, replicate, get_or, slice_get, arith}
-use Rattle.std.proofs.Math.ListN.{get_or-append}
 use Rattle.std.proofs.Math.Seq.{get_or-append_right}
-use Rattle.std.proofs.lemmas.Bool.Decides.{nat_tests}
-use Rattle.std.specs.Prelude.{slice_index}
 use mathlib.Core.Option.{some}
-use native.Mathlib.Decide.{ℕ_discrete}
 use lib.ListN.{get_elem?}
-use Rattle.sb_actor.specs.Laws.{first_thread, opening_at}
 use Rattle.sb_actor.specs.Laws.{first_worker as first_view}
-use Rattle.sb_actor.specs.Moves.{no_call}
-use Rattle.sb_actor.specs.Places.{block_of, clean_channels, first_stage, mark_at, statement_at}
-use Rattle.sb_actor.specs.Ties.{thread_place_of}
-use Rattle.sb_actor.specs.Views.{ThreadView}
-use Rattle.sb_statements.specs.Soundness.{channels_of}
-use Rattle.sb_statements.specs.declared.scripts.Script.{Script}
-use Rattle.sb_statements.specs.declared.statements.Statement.{Statement}
 use Rattle.sb_statements.specs.declared.statements.Statement.TheVariants as statement
 use Rattle.std.proofs.Common.{Option, Some}
-use Rattle.sb_core.specs.Threads.{RunAt, no_run}
-use Rattle.sb_core.specs.Views.{AreViews, HasView, TargetViews}
-use Rattle.sb_core.specs.Words.{free_channel, free_channels}
-use Rattle.sb_core.specs.Worlds.{first_run, first_runs, first_worker}
-use Rattle.sb_core.proofs.Placing.{at_end, at_longer}
-use Rattle.sb_core.proofs.ViewSteps.{RuleLaws}
+use Rattle.sb_core.proofs.Names.{AreViews, block_of, channels_of, clean_channels, first_run, first_runs, first_stage, first_thread, first_worker, free_channel, free_channels, get_or-append, HasView, mark_at, nat_tests, no_call, no_run, opening_at, RuleLaws, RunAt, Script, slice_index, Statement, statement_at, TargetViews, thread_place_of, ThreadView, ℕ_discrete}
+use Rattle.sb_core.proofs.Sets.{at_end, at_longer}
 use Rattle.sb_core.proofs.Starting.{clean_length, each_is, free_length, so_many}
 
 -- the opening words

@@ -1,16 +1,8 @@
 -- The step of an actor that is there is on words that are there, and keeps what every world keeps, and what a world keeps of its script.
 use Rattle.std.proofs.Common.{◌≡◌, ◌∙◌, ap, subst, sym, ℕ, ◌<◌, true, length, slice_get, arith}
-use Rattle.std.proofs.lemmas.Bool.Decides.{nat_tests}
-use Rattle.std.specs.Prelude.{nat_lt}
-use Rattle.sb_statements.specs.Soundness.{SoundStatements}
-use Rattle.sb_statements.specs.declared.schedules.Actor.TheVariants.{Thread, Worker}
-use Rattle.sb_statements.specs.declared.scripts.Script.{Script}
-use Rattle.sb_statements.specs.Actors.{is_there, thread_count}
-use Rattle.sb_core.specs.Kept.{IsRunning, IsWorld}
-use Rattle.sb_core.specs.Laws.{PlansAreThere, StepsKeep}
-use Rattle.sb_core.specs.Worlds.{WorldAt, threads_at, worker_step}
-use Rattle.sb_core.proofs.Keeping.{worker_keeps, worker_setting}
-use Rattle.sb_core.proofs.There.{as_many, thread_there, worker_there}
+use Rattle.sb_core.proofs.Names.{is_there, IsRunning, IsWorld, nat_lt, nat_tests, PlansAreThere, Script, SoundStatements, StepsKeep, Thread, thread_count, threads_at, Worker, worker_step, WorldAt}
+use Rattle.sb_core.proofs.WorkerKeeping.{worker_keeps, worker_setting}
+use Rattle.sb_core.proofs.Existence.{as_many, thread_there, worker_there}
 use Rattle.sb_core.proofs.ThreadKeeping.{thread_keeps, thread_runs}
 
 below : (a b : ℕ) → nat_lt a b ≡ true → a < b

@@ -1,28 +1,16 @@
 -- Every drain settles: how many steps each worker has left falls with each pass.
 use Rattle.std.proofs.Common.{◌≡◌, ◌≢◌, ◌∙◌, ◌⊎◌, inl, inr, ⊎_elim, refl, ap, subst, sym, ℕ, zero, suc, ◌+◌, ◌-◌, ◌*◌, ◌/◌, ◌%◌, ◌<◌, ◌≤◌, Bool, true, false, not, ltb, ◌&&◌, ◌||◌, ◌==◌, if◌then◌else◌, List, [], ◌∷◌, ◌++◌, length, length-append, length-set, set, get_or, get_or-set_same, get_or-set_other, Option, None, Some, is_none, lit<, lit≤, arith}
 use Rattle.std.proofs.Math.Nat.{mod-eq_of_lt, mod_self}
-use Rattle.std.proofs.lemmas.Bool.{and_parts}
-use Rattle.std.proofs.lemmas.Bool.Decides.{nat_tests}
 use Rattle.std.proofs.lemmas.Nat.{div-mul-add}
-use Rattle.std.specs.List.{list_all, list_any}
-use Rattle.std.specs.Prelude.{nat_lt, nat_le, slice_index}
-use native.Mathlib.Decide.{ℕ_discrete}
 use Rattle.sb_actor.specs.Acts.{ready}
-use Rattle.sb_actor.specs.Moves.{at}
-use Rattle.sb_actor.specs.Ranges.{IsSoundStage}
-use Rattle.sb_actor.specs.WorkerStages.{WorkerStage, WorkerAt, Look, Count, End, Copy, Take, Answer, Give, Reply, Ack}
-use Rattle.sb_actor.specs.WorkerTable.{after_copy, after_count, after_end, after_reply, is_looking, look_next, worker_after, worker_plan}
-use Rattle.sb_block.specs.Copies.{Copied, copied, is_end}
-use Rattle.sb_block.specs.Packing.{offset_of}
-use Rattle.sb_core.specs.Drains.{drained_by, is_settled, most_passes, one_pass, pass_below}
-use Rattle.sb_core.specs.Kept.{IsWorld, has_turn, is_holder}
-use Rattle.sb_core.specs.Laws.{DrainsSettle}
-use Rattle.sb_core.specs.Shared.{on_worker}
-use Rattle.sb_core.specs.Words.{exchanged, has_ready, is_ready_below, loaded, some_ready, stored, words_of}
-use Rattle.sb_core.specs.Worlds.{WorldAt, no_worker, worker_at, worker_goes, worker_step}
-use Rattle.sb_core.proofs.Keeping.{worker_keeps}
-use Rattle.sb_core.proofs.There.{its_own, words_listed}
-use Rattle.sb_core.proofs.Numbers.{itself, not_same, self_same}
+use Rattle.sb_actor.specs.WorkerStages.{Reply}
+use Rattle.sb_core.proofs.WorkerKeeping.{worker_keeps}
+use Rattle.sb_core.proofs.Existence.{its_own, words_listed, of_own}
+use Rattle.sb_core.proofs.Numbers.{itself, not_same, self_same, plus_none, apart}
+use Rattle.sb_core.proofs.Folding.{chosen}
+use Rattle.std.proofs.lemmas.List.Elements.{All-from_get_or}
+use Rattle.std.proofs.lemmas.List.Folds.{list_any_none}
+use Rattle.sb_core.proofs.Names.{Ack, after_copy, after_count, after_end, after_reply, and_parts, Answer, at, Copied, copied, Copy, Count, drained_by, DrainsSettle, End, exchanged, Give, has_ready, has_turn, is_end, is_holder, is_looking, is_ready_below, is_settled, IsSoundStage, IsWorld, list_all, list_any, loaded, Look, look_next, most_passes, nat_le, nat_lt, nat_tests, no_worker, offset_of, on_worker, one_pass, pass_below, slice_index, some_ready, stored, Take, words_of, worker_after, worker_at, worker_plan, worker_step, WorkerAt, WorkerStage, WorldAt, ℕ_discrete}
 
 -- the state of channel j is 3
 abbrev is_ready : List ℕ → ℕ → Bool
@@ -70,16 +58,13 @@ left k c words (Ack taken reply) = 1 + others words k c k
 same_test : (x y : ℕ) → x ≡ y → (x == y) ≡ true
 same_test x y e = grind (arith, nat_tests)
 
-apart_test : (x y : ℕ) → x ≢ y → (x == y) ≡ false
-apart_test x y n = grind (arith, nat_tests)
-
 -- what is waiting is at channel c, or at another
 split_below : (words : List ℕ) (k c n : ℕ) → n ≤ c → waiting words k c n ≡ others words k c n
 split_below words k c zero l = refl
 split_below words k c (suc n) l =
     let ne : n ≢ c = λ e. absurd (omega (arith, e, l)) in
     let before = split_below words k c n (omega (arith, l)) in
-    let off : but (n == c) (weigh words k c n) ≡ weigh words k c n = ap (λ b. but b (weigh words k c n)) (apart_test n c ne) in
+    let off : but (n == c) (weigh words k c n) ≡ weigh words k c n = ap (λ b. but b (weigh words k c n)) (apart n c (λ e. ne (sym e))) in
     omega (arith, before, off)
 
 split_above : (words : List ℕ) (k c n : ℕ) → c < n → waiting words k c n ≡ others words k c n + weigh words k c c
@@ -95,7 +80,7 @@ split_above words k c (suc n) l = by_place (ℕ_discrete n c) (λ m. split_above
         omega (arith, before, on, here)
     by_place (no ne) front =
         let before = front (omega (arith, l, ne)) in
-        let off : but (n == c) (weigh words k c n) ≡ weigh words k c n = ap (λ b. but b (weigh words k c n)) (apart_test n c ne) in
+        let off : but (n == c) (weigh words k c n) ≡ weigh words k c n = ap (λ b. but b (weigh words k c n)) (apart n c (λ e. ne (sym e))) in
         omega (arith, before, off)
 
 -- at the next channel each other one is one look nearer
@@ -186,7 +171,7 @@ served words new k c (suc n) l m same none =
         let zero_here : weigh new k ((c + 1) % k) n ≡ 0 = ap (λ b. weigh_by b (ahead k ((c + 1) % k) n)) (ap (is_ready new) s ∙ none) in
         omega (arith, zero_here)
     at_place (no ne) =
-        let off : but (n == c) (weigh words k c n) ≡ weigh words k c n = ap (λ b. but b (weigh words k c n)) (apart_test n c ne) in
+        let off : but (n == c) (weigh words k c n) ≡ weigh words k c n = ap (λ b. but b (weigh words k c n)) (apart n c (λ e. ne (sym e))) in
         let as_before : weigh new k ((c + 1) % k) n ≡ weigh_by (is_ready words n) (ahead k ((c + 1) % k) n) = ap (λ b. weigh_by b (ahead k ((c + 1) % k) n)) (same n ne) in
         let low = acknowledged_by (is_ready words n) (ahead k ((c + 1) % k) n) (ahead k c n) (nearer k c n ne l (omega (arith, m))) in
         omega (arith, off, as_before, low)
@@ -199,17 +184,17 @@ others_same words new k c (suc n) same =
 
 -- a stored word of a block changes no state
 block_store : (words : List ℕ) (c i value j : ℕ) → i ≤ 63 → is_ready (set words (c * 65 + (1 + i)) value) j ≡ is_ready words j
-block_store words c i value j l = ap (λ z. z == ready) (get_or-set_other words (c * 65 + (1 + i)) (at j 0) value 0 apart)
+block_store words c i value j l = ap (λ z. z == ready) (get_or-set_other words (c * 65 + (1 + i)) (at j 0) value 0 other)
   where
-    apart : at j 0 ≢ c * 65 + (1 + i)
-    apart e = absurd (omega (arith, e, l))
+    other : at j 0 ≢ c * 65 + (1 + i)
+    other e = absurd (omega (arith, e, l))
 
 -- a stored state is that of its channel alone
 state_store : (words : List ℕ) (c value j : ℕ) → j ≢ c → is_ready (set words (at c 0) value) j ≡ is_ready words j
-state_store words c value j n = ap (λ z. z == ready) (get_or-set_other words (at c 0) (at j 0) value 0 apart)
+state_store words c value j n = ap (λ z. z == ready) (get_or-set_other words (at c 0) (at j 0) value 0 other)
   where
-    apart : at j 0 ≢ at c 0
-    apart e = n (omega (arith, e))
+    other : at j 0 ≢ at c 0
+    other e = n (omega (arith, e))
 
 -- after the exchange from 3 to 4 the state is not 3
 not_ready : (words : List ℕ) (c : ℕ) → at c 0 < length words → (b : Bool) → (get_or words (at c 0) 0 == 3) ≡ b
@@ -345,21 +330,13 @@ abbrev moves : WorldAt → ℕ → Bool
 moves w t =
     goes_on w.shared.turn (waiting (words_of w.shared.words t) (worker_at w t).channels (worker_at w t).channel (worker_at w t).channels) (worker_at w t).stage
 
--- the worker of a target after its step
-abbrev gone : WorldAt → ℕ → ℕ → ℕ → WorkerStage → WorkerAt
-gone w t k c stage =
-    worker_after (record { target = t; channels = k; channel = c; stage = stage })
-    (on_worker w.shared t (record { target = t; channels = k; channel = c; stage = stage }) (worker_plan (record { target = t; channels = k; channel = c; stage = stage }))).seen
-
 -- the step of a worker of a target, for that target
 own_left : (w : WorldAt) (t : ℕ) → IsWorld w → t < length w.workers → Leaves (moves w t) (left_at (worker_step w t) t) (left_at w t)
 own_left w t kept there =
     let k = kept.workers t there in
     let x = worker_at w t in
-    subst (λ (z : WorkerAt). Leaves (moves w t) (left_at (worker_goes w t z (on_worker w.shared t z (worker_plan z))) t) (left_at w t)) (sym (its_own w t kept there))
-    (subst (λ (y : WorkerAt). Leaves (moves w t)
-    (left y.channels y.channel (words_of (on_worker w.shared t (record x { target = t }) (worker_plan (record x { target = t }))).shared.words t) y.stage) (left_at w t))
-    (sym (get_or-set_same w.workers t (gone w t x.channels x.channel x.stage) no_worker there)) (step_leaves w t x.channels x.channel kept there k.within k.few k.sized x.stage k.sound))
+    of_own w t kept there (λ x y s. Leaves (moves w t) (left y.channels y.channel (words_of s.words t) y.stage) (left_at w t))
+    (step_leaves w t x.channels x.channel kept there k.within k.few k.sized x.stage k.sound)
 
 -- another target's worker and words stay
 pub record Stays (w v : WorldAt) (u : ℕ) : Type 0 where
@@ -478,9 +455,6 @@ busy_moves w t kept there free busy =
   where
     channels : (k : ℕ) → length (words_of w.shared.words t) ≡ k * 65 → length (words_of w.shared.words t) / 65 ≡ k
     channels k e = ap (λ n. n / 65) (e ∙ plus_none (k * 65)) ∙ div-mul-add k 65 0 (lit< tt)
-      where
-        plus_none : (n : ℕ) → n ≡ n + 0
-        plus_none n = omega arith
 
     some_below : (n : ℕ) → 0 < n → ltb 0 n ≡ true
     some_below n h = grind (arith, nat_tests)
@@ -507,14 +481,7 @@ idle_turn w t e =
     by_stage : (x : WorkerAt) (stage : WorkerStage) → is_looking stage ≡ true
         → (on_worker w.shared t (record x { stage = stage }) (worker_plan (record x { stage = stage }))).shared.turn ≡ w.shared.turn
     by_stage x Look e = refl
-    by_stage x Count e = absurd (cc)
-    by_stage x (End count) e = absurd (cc)
-    by_stage x (Copy count end copy) e = absurd (cc)
-    by_stage x (Take taken) e = absurd (cc)
-    by_stage x (Answer taken) e = absurd (cc)
-    by_stage x (Give taken reply) e = absurd (cc)
-    by_stage x (Reply taken reply i) e = absurd (cc)
-    by_stage x (Ack taken reply) e = absurd (cc)
+    by_stage x _ e = absurd (cc)
 
 -- so a pass of idle workers leaves it
 pass_turn : (w : WorldAt) (n : ℕ) → IsWorld w → n ≤ length w.workers → ((u : ℕ) → u < n → is_idle w u ≡ true) → (pass_below n w).shared.turn ≡ w.shared.turn
@@ -554,11 +521,7 @@ all_at p (x ∷ xs) d each =
     rw (first, rest) refl
 
 pub none_at : {X : Type 0} (p : X → Bool) (xs : List X) (d : X) → ((i : ℕ) → i < length xs → p (get_or xs i d) ≡ false) → list_any p xs ≡ false
-none_at p [] d each = refl
-none_at p (x ∷ xs) d each =
-    let first : p x ≡ false = each 0 (omega arith) in
-    let rest = none_at p xs d (λ i l. each (suc i) (omega (arith, l))) in
-    rw (first, rest) refl
+none_at p xs d each = list_any_none p xs (All-from_get_or (λ x. p x ≡ false) xs d each)
 
 idle_settled : (w : WorldAt) → IsWorld w → ((u : ℕ) → u < length w.workers → is_idle w u ≡ true) → is_settled w ≡ true
 idle_settled w kept idle =
@@ -611,10 +574,6 @@ unsettled_falls w kept busy = by_turn w.shared.turn refl
         (holder_moves (pass_below holder w).shared.turn _ (worker_at (pass_below holder w) holder).stage stays)
 
 -- this many passes settle a world with this many steps left
-settled_case : (b : Bool) (u v : WorldAt) → (b ≡ true → is_settled u ≡ true) → (b ≡ false → is_settled v ≡ true) → is_settled (elim b [ true ↦ u | false ↦ v ]) ≡ true
-settled_case true u v f g = f refl
-settled_case false u v f g = g refl
-
 settles : (n : ℕ) (w : WorldAt) → IsWorld w → total (length w.workers) w ≤ n → is_settled (drained_by n w) ≡ true
 settles zero w kept few = by_test (is_settled w) refl
   where
@@ -622,7 +581,7 @@ settles zero w kept few = by_test (is_settled w) refl
     by_test true e = e
     by_test false e = let less = unsettled_falls w kept e in absurd (omega (arith, less, few))
 settles (suc n) w kept few =
-    settled_case (is_settled w) w (drained_by n (one_pass w)) (λ e. e)
+    chosen (λ v. is_settled v ≡ true) (is_settled w) w (drained_by n (one_pass w)) (λ e. e)
     (λ e.
     let p = passed w (length w.workers) kept (itself (length w.workers)) in
     let less = unsettled_falls w kept e in

@@ -1,27 +1,13 @@
 -- The world before the first step keeps what every world keeps, and runs its script.
 use Rattle.std.proofs.Common.{◌≡◌, ◌∙◌, refl, ap, subst, sym, ℕ, zero, suc, ◌+◌, ◌*◌, ◌<◌, ◌≤◌, Bool, true, false, ltb, List, [], ◌∷◌, ◌++◌, length, length-append, map, get_or, slice_get, arith}
-use Rattle.std.proofs.Math.ListN.{get_or-append}
 use Rattle.std.proofs.Math.Seq.{get_or-append_seam}
-use Rattle.std.proofs.lemmas.Bool.Decides.{nat_tests}
-use native.Mathlib.Decide.{ℕ_discrete}
-use Rattle.sb_actor.specs.Places.{thread_start, clean_channels, clean_upto, mark_at, statement_at, statements_of}
-use Rattle.sb_book.specs.Readiness.{IsReady}
-use Rattle.sb_rule.specs.Verdicts.{policy_at}
-use Rattle.sb_rule.specs.declared.policies.Policy.{Policy}
 use Rattle.sb_statements.specs.Scripts.{is_clean}
-use Rattle.sb_statements.specs.Soundness.{SoundStatements, SoundTargets, channels_of, is_sound}
-use Rattle.sb_statements.specs.declared.scripts.Script.{Script}
-use Rattle.sb_statements.specs.declared.scripts.TargetScript.{TargetScript}
-use Rattle.sb_statements.specs.Actors.{thread_count}
-use Rattle.sb_core.specs.Kept.{IsAtStatement, IsRunOf, IsRunning, IsWorkerOf, IsWorld}
-use Rattle.sb_core.specs.Laws.{StartsKeep}
-use Rattle.sb_core.specs.Threads.{RunAt, no_run}
-use Rattle.sb_core.specs.Words.{free_channel, free_channels, words_of}
-use Rattle.sb_core.specs.Worlds.{WorldAt, first_run, first_runs, first_words, first_worker, first_workers, no_worker, run_at, start_threads, start_world, threads_at}
 use Rattle.sb_core.proofs.Bounds.{few_targets, ready_sound, some_channels, some_patience}
-use Rattle.sb_core.proofs.There.{channels_from, listed, sound_at}
+use Rattle.sb_core.proofs.Existence.{channels_from, listed, sound_at}
 use Rattle.sb_core.proofs.ThreadKeeping.{first_calling, first_over, first_short, first_sound}
-use Rattle.sb_core.proofs.Numbers.{none_some}
+use Rattle.sb_core.proofs.Numbers.{none_some, least}
+use native.Mathlib.Numerals.{unary_clauses}
+use Rattle.sb_core.proofs.Names.{channels_of, clean_channels, clean_upto, first_run, first_runs, first_words, first_worker, first_workers, free_channel, free_channels, get_or-append, is_sound, IsAtStatement, IsReady, IsRunning, IsRunOf, IsWorkerOf, IsWorld, length-map, mark_at, nat_tests, no_run, no_worker, Policy, policy_at, run_at, RunAt, Script, SoundStatements, SoundTargets, start_threads, start_world, StartsKeep, statement_at, statements_of, TargetScript, thread_count, thread_start, threads_at, words_of, WorldAt, ℕ_discrete}
 
 -- lists of the first this many
 module _ {X : Type 0} (f : ℕ → X) (g : ℕ → List X) (none : g zero ≡ []) (more : (n : ℕ) → g (suc n) ≡ g n ++ f n ∷ []) where
@@ -63,10 +49,6 @@ pub words_at : (targets : List TargetScript) (t : ℕ) → words_of (first_words
 words_at [] t = refl
 words_at (target ∷ targets) zero = refl
 words_at (target ∷ targets) (suc t) = words_at targets t
-
-mapped_length : {X Y : Type 0} (f : X → Y) (xs : List X) → length (map f xs) ≡ length xs
-mapped_length f [] = refl
-mapped_length f (x ∷ xs) = ap suc (mapped_length f xs)
 
 -- the list of a target's clean channels has one item for each channel
 pub clean_length : (script : Script) (target n : ℕ) → length (clean_upto script target n) ≡ n
@@ -144,9 +126,9 @@ module _ (targets_law : SoundTargets) (statements_law : SoundStatements) (polici
   pub starts_world : IsWorld start
   starts_world = record {
     few = subst (λ n. n ≤ 8) (sym workers_count) (few_targets script sound);
-    policies = mapped_length (λ target. policy_at policies target.policy) script.targets ∙ sym workers_count;
-    channels = mapped_length (λ target. target.channels) script.targets ∙ sym workers_count;
-    words = mapped_length (λ target. free_channels target.channels) script.targets ∙ sym workers_count;
+    policies = length-map script.targets (λ target. policy_at policies target.policy) ∙ sym workers_count;
+    channels = length-map script.targets (λ target. target.channels) ∙ sym workers_count;
+    words = length-map script.targets (λ target. free_channels target.channels) ∙ sym workers_count;
     holder = λ t e. absurd (none_some t e);
     workers = λ t l.
         let there : t < count = subst (λ n. t < n) workers_count l in
@@ -189,9 +171,6 @@ module _ (targets_law : SoundTargets) (statements_law : SoundStatements) (polici
     patience = refl;
     clean = refl;
   }
-    where
-      least : (n : ℕ) → 0 ≤ n
-      least n = omega arith
 
   pub starts_running : IsRunning script start
   starts_running = record {
@@ -205,3 +184,29 @@ module _ (targets_law : SoundTargets) (statements_law : SoundStatements) (polici
 
 pub starts_keep : SoundTargets → SoundStatements → StartsKeep
 starts_keep targets statements policies script h = (starts_world targets statements policies script h, starts_running targets statements policies script h)
+
+channels_next : (n : ℕ) → free_channels (suc n) ≡ free_channels n ++ free_channel
+channels_next n = refl
+
+pub channels_more : (n : ℕ) → free_channels (n + 1) ≡ free_channels n ++ free_channel
+channels_more n = simp unary_clauses (channels_next n)
+
+-- a list of the first this many
+listed_next : {X : Type 0} (f : ℕ → X) (g : ℕ → List X) → ((m : ℕ) → g (suc m) ≡ g m ++ f m ∷ []) → (n : ℕ) → g (n + 1) ≡ g n ++ f n ∷ []
+listed_next f g more n = simp unary_clauses (more n)
+
+pub runs_more : (script : Script) (target n : ℕ) → first_runs script target (n + 1) ≡ first_runs script target n ++ first_run script target n ∷ []
+runs_more script target n = listed_next (first_run script target) (first_runs script target) (λ m. refl) n
+
+workers_next : (targets : List TargetScript) (n : ℕ) → first_workers targets (suc n) ≡ first_workers targets n ++ first_worker targets n ∷ []
+workers_next targets n = refl
+
+pub workers_more : (targets : List TargetScript) (n : ℕ) → first_workers targets (n + 1) ≡ first_workers targets n ++ first_worker targets n ∷ []
+workers_more targets n = simp unary_clauses (workers_next targets n)
+
+start_next : (script : Script) (n : ℕ) → start_threads script (suc n) ≡ start_threads script n ++ first_runs script n (thread_count (slice_get script.targets n)) ∷ []
+start_next script n = refl
+
+pub threads_more : (script : Script) (n : ℕ)
+    → start_threads script (n + 1) ≡ start_threads script n ++ first_runs script n (thread_count (slice_get script.targets n)) ∷ []
+threads_more script n = simp unary_clauses (start_next script n)

@@ -1,30 +1,14 @@
 -- Steps of actors that are there lead from one world to another: rounds, passes, the drain, and whole runs do.
-use Rattle.std.proofs.Common.{◌≡◌, ◌∙◌, refl, ap, subst, sym, ℕ, zero, suc, ◌<◌, ◌≤◌, Bool, true, false, List, [], ◌∷◌, ◌++◌, length, length-set, replicate, slice_get, arith}
-use Rattle.std.proofs.lemmas.Bool.{and_parts}
-use Rattle.std.specs.List.{list_all}
-use Rattle.sb_rule.specs.declared.policies.Policy.{Policy}
-use Rattle.sb_statements.specs.declared.schedules.Actor.{Actor}
-use Rattle.sb_statements.specs.declared.schedules.Actor.TheVariants.{Thread, Worker}
-use Rattle.sb_statements.specs.declared.schedules.Schedule.{Schedule}
-use Rattle.sb_statements.specs.declared.scripts.Script.{Script}
-use Rattle.sb_statements.specs.declared.scripts.TargetScript.{TargetScript}
-use Rattle.sb_core.specs.Actors.{are_there, first_actors, first_threads, round_actors, scheduled, target_actors}
-use Rattle.sb_statements.specs.Actors.{is_step_there, is_there, thread_count}
-use Rattle.sb_core.specs.Drains.{drained, drained_by, is_settled, most_passes, one_pass, pass_below}
-use Rattle.sb_core.specs.Kept.{IsRunning, IsWorld}
-use Rattle.sb_core.specs.Runs.{CanRun, played}
-use Rattle.sb_core.specs.Worlds.{WorldAt, all_finished, round, rounds, start_world, step, steps}
-use Rattle.sb_core.proofs.Folding.{steps_append}
-use Rattle.sb_core.proofs.There.{as_many}
+use Rattle.std.proofs.Common.{◌≡◌, ◌∙◌, refl, ap, subst, sym, ℕ, zero, suc, ◌<◌, ◌≤◌, true, List, [], ◌∷◌, ◌++◌, length, length-set, replicate, slice_get, arith, Bool}
+use Rattle.sb_core.proofs.Folding.{steps_append, chosen}
+use Rattle.sb_core.proofs.Existence.{as_many}
 use Rattle.sb_core.proofs.Numbers.{is_below, itself}
+use Rattle.std.proofs.lemmas.List.Folds.{list_all-append}
+use Rattle.sb_core.proofs.Names.{Actor, all_finished, and_from, and_parts, are_there, CanRun, drained, drained_by, first_actors, first_threads, is_settled, is_step_there, is_there, IsRunning, IsWorld, list_all, most_passes, one_pass, pass_below, played, Policy, round, round_actors, rounds, Schedule, scheduled, Script, start_world, step, steps, target_actors, TargetScript, Thread, thread_count, Worker, WorldAt}
 
 -- the actors of a round are there
 pub all_append : (p : Actor → Bool) (xs ys : List Actor) → list_all p xs ≡ true → list_all p ys ≡ true → list_all p (xs ++ ys) ≡ true
-all_append p [] ys h k = k
-all_append p (x ∷ xs) ys h k =
-    let parts = and_parts (p x) (list_all p xs) h in
-    let rest = all_append p xs ys parts.1 k in
-    rw (parts.0, rest) refl
+all_append p xs ys h k = list_all-append p xs ys ∙ and_from (list_all p xs) (list_all p ys) h k
 
 pub single : (p : Actor → Bool) (x : Actor) → p x ≡ true → list_all p (x ∷ []) ≡ true
 single p x e = rw e refl
@@ -93,16 +77,11 @@ module _ (script : Script) where
     reached = later.reached ∙ (ap (steps script later.actors) first.reached ∙ sym (steps_append script first.actors later.actors u));
   }
 
-  -- what holds of both worlds holds of the one that is chosen
-  chosen : (u : WorldAt) (b : Bool) (v w : WorldAt) → Leads script u v → Leads script u w → Leads script u (elim b [ true ↦ v | false ↦ w ])
-  chosen u true v w x y = x
-  chosen u false v w x y = y
-
   pub leads_rounds : (n : ℕ) (w : WorldAt) → Leads script w (rounds n script w)
   leads_rounds zero w = leads_by [] w refl
   leads_rounds (suc n) w =
-      chosen w (all_finished script w) w (rounds n script (round script w)) (leads_by [] w refl)
-      (leads_on w (round script w) (rounds n script (round script w)) (leads_by (round_actors script.targets) w (rounds_there script.targets)) (leads_rounds n (round script w)))
+      chosen (Leads script w) (all_finished script w) w (rounds n script (round script w)) (λ e. leads_by [] w refl)
+      (λ e. leads_on w (round script w) (rounds n script (round script w)) (leads_by (round_actors script.targets) w (rounds_there script.targets)) (leads_rounds n (round script w)))
 
   pub leads_pass : (n : ℕ) (w : WorldAt) → n ≤ length script.targets → Leads script w (pass_below n w)
   leads_pass zero w l = leads_by [] w refl
@@ -115,8 +94,8 @@ module _ (script : Script) where
   leads_passes (suc n) w l =
       let same = pass_workers (length w.workers) w in
       let few : length (one_pass w).workers ≤ length script.targets = omega (arith, same, l) in
-      chosen w (is_settled w) w (drained_by n (one_pass w)) (leads_by [] w refl)
-      (leads_on w (one_pass w) (drained_by n (one_pass w)) (leads_pass (length w.workers) w l) (leads_passes n (one_pass w) few))
+      chosen (Leads script w) (is_settled w) w (drained_by n (one_pass w)) (λ e. leads_by [] w refl)
+      (λ e. leads_on w (one_pass w) (drained_by n (one_pass w)) (leads_pass (length w.workers) w l) (leads_passes n (one_pass w) few))
 
   -- the drain
   pub leads_drain : (w : WorldAt) → IsWorld w → IsRunning script w → Leads script w (drained w)

@@ -1,62 +1,27 @@
 -- In every world of a script the entries on a channel, with one that is owed, are at most what threads handed over there and what made it ready directly.
 use Rattle.std.proofs.Common.{◌≡◌, ◌≢◌, ◌∙◌, refl, ap, subst, sym, ℕ, suc, ◌+◌, ◌*◌, ◌%◌, ◌<◌, ◌≤◌, Bool, true, false, ◌&&◌, ◌==◌, if◌then◌else◌, List, [], ◌∷◌, ◌++◌, length, length-set, map, set, get_or, get_or-set_same, get_or-set_other, Option, None, Some, slice_get, arith}
-use Rattle.std.proofs.lemmas.List.{set-get_or}
-use Rattle.std.proofs.lemmas.List.Sums.{sum_by-cons, sum_by-set}
-use Rattle.std.specs.Option.{option_to_list}
-use Rattle.std.specs.Prelude.{slice_index}
-use native.Mathlib.Decide.{ℕ_discrete}
-use Rattle.sb_actor.specs.Acts.{value_in}
-use Rattle.sb_actor.specs.Moves.{at}
-use Rattle.sb_actor.specs.Places.{statement_at, statements_of}
-use Rattle.sb_actor.specs.ThreadTable.{thread_after, thread_plan}
-use Rattle.sb_actor.specs.WorkerStages.{WorkerStage, WorkerAt, Look, Count, End, Copy, Take, Answer, Give, Reply, Ack}
-use Rattle.sb_actor.specs.WorkerTable.{worker_plan}
-use Rattle.sb_actor.specs.declared.acts.Act.{Act}
+use Rattle.std.proofs.lemmas.List.Sums.{sum_by-set}
+use Rattle.sb_core.proofs.Names.{Act, Answer, at, CanRun, channels_of, drained, entries_on, EntriesAreFew, Entry, entry_of, first_unfinished, first_worker, first_workers, free_channels, has_sent, is_state, IsActThere, IsOfScript, IsReady, IsWorld, loaded, Look, no_run, no_worker, on_word, on_worker, one_if, option_to_list, place_of, played, Policy, results_of, run_at, RunAt, Schedule, Script, set-get_or, SharedAt, slice_index, SoundStatements, SoundTargets, start_world, statement_at, statements_of, step, stored, sum_by-cons, Take, tally_all, tally_from, tally_row, tally_so_far, tally_targets, tally_threads, target_decision, Thread, thread_after, thread_plan, threads_at, value_in, Word, words_of, worker_at, worker_plan, worker_step, WorkerAt, WorkerStage, WorldAt, WorldsAreFew, ℕ_discrete}
 use Rattle.sb_actor.specs.declared.acts.Act.TheVariants as act
-use Rattle.sb_book.specs.Histories.{entry_of, target_decision}
-use Rattle.sb_book.specs.Readiness.{IsReady}
-use Rattle.sb_book.specs.declared.entries.Entry.{Entry}
-use Rattle.sb_rule.specs.declared.policies.Policy.{Policy}
-use Rattle.sb_statements.specs.Actors.{is_there}
-use Rattle.sb_statements.specs.Soundness.{SoundStatements, SoundTargets, channels_of}
-use Rattle.sb_statements.specs.declared.schedules.Actor.{Actor}
-use Rattle.sb_statements.specs.declared.schedules.Actor.TheVariants.{Thread, Worker}
-use Rattle.sb_statements.specs.declared.schedules.Schedule.{Schedule}
-use Rattle.sb_statements.specs.declared.scripts.Script.{Script}
-use Rattle.sb_statements.specs.declared.statements.Word.{Word}
-use Rattle.sb_core.specs.Drains.{drained}
-use Rattle.sb_core.specs.Kept.{IsRunning, IsWorld}
-use Rattle.sb_core.specs.Reports.{results_of}
-use Rattle.sb_core.specs.Runs.{CanRun, ended, played}
-use Rattle.sb_core.specs.Shared.{IsActThere, SharedAt, on_word, on_worker}
-use Rattle.sb_core.specs.Tallies.{WorldsAreFew, has_sent, tally_all, tally_row, tally_so_far, EntriesAreFew, entries_on, is_state, one_if, tally_from, tally_targets, tally_threads}
-use Rattle.sb_core.specs.Threads.{RunAt, first_unfinished, no_run}
-use Rattle.sb_core.specs.Words.{free_channels, loaded, stored, words_of}
-use Rattle.sb_statements.specs.Words.{place_of}
-use Rattle.sb_core.specs.Worlds.{WorldAt, first_worker, first_workers, no_worker, run_at, start_world, step, threads_at, worker_at, worker_goes, worker_step}
+use Rattle.sb_core.specs.Runs.{ended}
 use Rattle.sb_core.proofs.Bounds.{ready_sound}
-use Rattle.sb_core.proofs.Draining.{drained_threads}
+use Rattle.sb_core.proofs.Beginning.{drained_threads}
 use Rattle.sb_core.proofs.Judging.{none_behind, over_is}
-use Rattle.sb_core.proofs.Keeping.{worker_keeps, worker_sizes}
-use Rattle.sb_core.specs.OfScripts.{IsOfScript}
-use Rattle.sb_core.proofs.Belonging.{leads_of, of_end}
+use Rattle.sb_core.proofs.WorkerKeeping.{worker_sizes}
+use Rattle.sb_core.proofs.Belonging.{leads_of, of_end, Keeps, holds_on}
 use Rattle.sb_core.proofs.RunLaws.{each_finished}
-use Rattle.sb_core.proofs.Running.{step_keeps, thread_is_there, worker_is_there, worker_runs}
 use Rattle.sb_core.proofs.Settling.{other_stays}
 use Rattle.sb_core.proofs.Opening.{opened}
-use Rattle.sb_core.proofs.Stepping.{kept_along}
-use Rattle.sb_core.proofs.Starting.{each_is, free_length, starts_running, starts_world, words_at}
-use Rattle.sb_core.proofs.There.{as_many, its_own, listed, targets_there, sound_at, thread_there}
+use Rattle.sb_core.proofs.Starting.{each_is, free_length, words_at, so_many}
+use Rattle.sb_core.proofs.Existence.{as_many, listed, targets_there, sound_at, thread_there, of_own}
 use Rattle.sb_core.proofs.ThreadKeeping.{facts, thread_book, word_keeps}
 use Rattle.sb_core.proofs.ThreadSources.{row_writes}
 use Rattle.sb_core.proofs.ThreadTallies.{readies, row_counted, tally_in, tally_more}
 use Rattle.sb_core.proofs.Sourcing.{WritesSource}
 use Rattle.sb_core.proofs.WorkerTallies.{entries_more, looking_owed, owed, owed_by, own_owed}
-use Rattle.sb_core.proofs.Numbers.{apart, self_same}
+use Rattle.sb_core.proofs.Numbers.{apart, self_same, from_zero, plus_none}
 
 pub record Tallied (script : Script) (w : WorldAt) : Type 0 where
-  pub kept : IsWorld w
-  pub runs : IsRunning script w
   pub few : (t c : ℕ) → t < length w.workers → at c 0 < length (words_of w.shared.words t)
       → entries_on t c w.shared.book.entries + owed (worker_at w t) c (slice_index (words_of w.shared.words t) (at c 0)) ≤ tally_all script t c w.threads
 
@@ -70,14 +35,9 @@ own_few w t kept there c inside =
     let x = worker_at w t in
     let low : at c 0 < length (words_of w.shared.words t) = subst (λ n. at c 0 < n) (worker_sizes w t kept there t) inside in (
       low,
-      subst (λ (z : WorkerAt). entries_on t c (on_worker w.shared t z (worker_plan z)).shared.book.entries
-          + owed (worker_at (worker_goes w t z (on_worker w.shared t z (worker_plan z))) t) c (slice_index (words_of (on_worker w.shared t z (worker_plan z)).shared.words t) (at c 0))
-          ≤ entries_on t c w.shared.book.entries + owed z c (slice_index (words_of w.shared.words t) (at c 0)))
-          (sym (its_own w t kept there))
-          (subst (λ (y : WorkerAt). entries_on t c (on_worker w.shared t (record x { target = t }) (worker_plan (record x { target = t }))).shared.book.entries
-          + owed y c (slice_index (words_of (on_worker w.shared t (record x { target = t }) (worker_plan (record x { target = t }))).shared.words t) (at c 0))
-          ≤ entries_on t c w.shared.book.entries + owed_by (x.channel == c) x.stage (slice_index (words_of w.shared.words t) (at c 0)))
-          (sym (get_or-set_same w.workers t _ no_worker there)) (own_owed w t x.channels x.channel kept there c low x.stage k.sound)),
+      of_own w t kept there (λ x y s. entries_on t c s.book.entries + owed y c (slice_index (words_of s.words t) (at c 0))
+          ≤ entries_on t c w.shared.book.entries + owed x c (slice_index (words_of w.shared.words t) (at c 0)))
+          (own_owed w t x.channels x.channel kept there c low x.stage k.sound),
     )
 
 -- the entries of another target
@@ -90,25 +50,22 @@ module _ (w : WorldAt) (t u c : ℕ) (x : WorkerAt) (ne : u ≢ t) where
       omega (arith, more, none)
   other_entries _ = refl
 
-tallied_worker : (script : Script) (w : WorldAt) (t : ℕ) → Tallied script w → t < length w.workers → Tallied script (worker_step w t)
-tallied_worker script w t r there = record {
-  kept = worker_keeps w t r.kept there;
-  runs = worker_runs script w t r.kept r.runs there;
-  few = λ u c l m. by_place u c (subst (λ n. u < n) (length-set w.workers t _) l) m (ℕ_discrete u t);
-}
+tallied_worker : (script : Script) (w : WorldAt) (t : ℕ) → Keeps script (Tallied script) w → t < length w.workers → Tallied script (worker_step w t)
+tallied_worker script w t r there =
+    record { few = λ u c l m. by_place u c (subst (λ n. u < n) (length-set w.workers t _) l) m (ℕ_discrete u t) }
   where
     by_place : (u c : ℕ) → u < length w.workers → at c 0 < length (words_of (worker_step w t).shared.words u) → Dec (u ≡ t)
         → entries_on u c (worker_step w t).shared.book.entries + owed (worker_at (worker_step w t) u) c (slice_index (words_of (worker_step w t).shared.words u) (at c 0)) ≤ tally_all script u c w.threads
     by_place u c l m (yes e) =
         subst (λ z. at c 0 < length (words_of (worker_step w t).shared.words z)
         → entries_on z c (worker_step w t).shared.book.entries + owed (worker_at (worker_step w t) z) c (slice_index (words_of (worker_step w t).shared.words z) (at c 0)) ≤ tally_all script z c w.threads) (sym e)
-        (λ q. let o = own_few w t r.kept there c q in at_most _ _ _ o.1 (r.few t c there o.0)) m
+        (λ q. let o = own_few w t r.kept there c q in at_most _ _ _ o.1 (r.has.few t c there o.0)) m
       where
         at_most : (a b c : ℕ) → a ≤ b → b ≤ c → a ≤ c
         at_most a b c p q = omega (arith, p, q)
     by_place u c l m (no ne) =
         let s = other_stays w t u r.kept there ne in
-        let before = r.few u c l (subst (λ (z : List ℕ). at c 0 < length z) s.words m) in
+        let before = r.has.few u c l (subst (λ (z : List ℕ). at c 0 < length z) s.words m) in
         subst (λ (z : ℕ × WorkerAt × List ℕ). z.0 + owed z.1 c (slice_index z.2 (at c 0)) ≤ tally_all script u c w.threads)
         (λ j. (sym (other_entries w t u c (worker_at w t) ne (worker_at w t).stage) j, sym s.worker j, sym s.words j)) before
 
@@ -192,27 +149,17 @@ module _ (s : SharedAt) (u c : ℕ) (inside : at c 0 < length (words_of s.words 
 -- what is owed grows by no more
 owed_rises : (b : Bool) (stage : WorkerStage) (s after r : ℕ) → one_if (after == 3) ≤ one_if (s == 3) + r → owed_by b stage after ≤ owed_by b stage s + r
 owed_rises true Look s after r l = l
-owed_rises true Count s after r l = omega arith
-owed_rises true (End count) s after r l = omega arith
-owed_rises true (Copy count end words) s after r l = omega arith
-owed_rises true (Take taken) s after r l = omega arith
-owed_rises true (Answer taken) s after r l = omega arith
-owed_rises true (Give taken reply) s after r l = omega arith
-owed_rises true (Reply taken reply i) s after r l = omega arith
-owed_rises true (Ack taken reply) s after r l = omega arith
+owed_rises true _ s after r l = omega arith
 owed_rises false _ s after r l = l
 
 module _ (targets : SoundTargets) (statements : SoundStatements) (script : Script) where
-  tallied_thread : (w : WorldAt) (t k : ℕ) → Tallied script w → is_there script.targets (Thread t k) ≡ true → Tallied script (step script w (Thread t k))
-  tallied_thread w t k r e =
-      let there = thread_is_there script w t k r.runs e in
-      let kept = step_keeps statements script w (Thread t k) r.kept r.runs e in
-      record { kept = kept.0; runs = kept.1; few = λ u c l m. counted there u c l m }
+  tallied_thread : (w : WorldAt) (t k : ℕ) → Keeps script (Tallied script) w → k < length (threads_at w t) → Tallied script (step script w (Thread t k))
+  tallied_thread w t k r there = record { few = λ u c l m. counted u c l m }
     where
-      counted : k < length (threads_at w t) → (u c : ℕ) → u < length w.workers → at c 0 < length (words_of (step script w (Thread t k)).shared.words u)
+      counted : (u c : ℕ) → u < length w.workers → at c 0 < length (words_of (step script w (Thread t k)).shared.words u)
           → entries_on u c (step script w (Thread t k)).shared.book.entries + owed (worker_at w u) c (slice_index (words_of (step script w (Thread t k)).shared.words u) (at c 0))
           ≤ tally_all script u c (step script w (Thread t k)).threads
-      counted there u c l m =
+      counted u c l m =
           let x = run_at w t k in
           let y = x.thread in
           let its = r.kept.threads t k there in
@@ -231,7 +178,7 @@ module _ (targets : SoundTargets) (statements : SoundStatements) (script : Scrip
           (row_writes script w.shared.book.entries y y.stage its.sound at_this.calling its.short at_this.block good) in
           let owes = owed_rises ((worker_at w u).channel == c) (worker_at w u).stage (slice_index (words_of w.shared.words u) (at c 0))
           (slice_index (words_of (on_word w.shared plan).shared.words u) (at c 0)) (one_if (readies u c plan (value_in seen))) rises in
-          let row = row_counted script u c y y.stage seen in
+          let row = row_counted script u c y y.stage its.sound seen in
           let tallies : tally_from script u c y.target y.thread 0 z.results
           ≡ tally_from script u c y.target y.thread 0 x.results + tally_in u c y.target (statement_at script y.target y.thread y.place) next.ended =
           tally_more script u c y.target y.thread 0 y.place x.results next.ended (from_zero (length x.results) y.place its.counted) in
@@ -239,12 +186,9 @@ module _ (targets : SoundTargets) (statements : SoundStatements) (script : Scrip
           ap (λ (q : ℕ × ℕ). one_if (q.0 == u && has_sent c next.thread.stage) + tally_from script u c q.0 q.1 0 z.results) (λ j. (told.its_target j, told.its_number j)) in
           let in_row = sum_by-set (tally_so_far script u c) (threads_at w t) k z no_run there in
           let in_all = sum_by-set (tally_row script u c) w.threads t (set (threads_at w t) k z) [] (listed w.threads t k there) in
-          let before = r.few u c l inside in
+          let before = r.has.few u c l inside in
           put_together _ _ _ _ _ _ _ _ _ _ _ _ _ _ _ book owes before row tallies heavy in_row in_all
         where
-          from_zero : (a b : ℕ) → a ≡ b → b ≡ 0 + a
-          from_zero a b e = omega (arith, e)
-
           -- entries, what is owed, weights, sums
           put_together : (ea eb oa ob rise all sent_b sent_a told_b told_a more wa row_a row_b sum : ℕ) → ea ≡ eb → oa ≤ ob + rise → eb + ob ≤ all → sent_b + rise ≤ sent_a + more → told_a ≡ told_b + more
               → wa ≡ sent_a + told_a → row_a + (sent_b + told_b) ≡ row_b + wa → sum + row_b ≡ all + row_a → ea + oa ≤ sum
@@ -259,14 +203,12 @@ module _ (targets : SoundTargets) (statements : SoundStatements) (script : Scrip
 
   tallied_start : (policies : List Policy) → IsReady policies script → Tallied script (start_world policies script)
   tallied_start policies h = record {
-    kept = kept;
-    runs = runs;
     few = λ t c l m.
         let n = channels_of (slice_get script.targets t) in
         let same = words_at script.targets t in
         let size = free_length n in
         let state = start_state n c (subst (λ z. at c 0 < z) (ap (λ (z : List ℕ). length z) same ∙ size) m) in
-        let here = subst (λ n. t < n) (as_many script (start_world policies script) kept runs) l in
+        let here = subst (λ n. t < n) (so_many (first_worker script.targets) (first_workers script.targets) refl (λ n. refl) (length script.targets)) l in
         subst (λ (x : WorkerAt). 0 + owed x c (slice_index (words_of (start_world policies script).shared.words t) (at c 0)) ≤ tally_all script t c (start_world policies script).threads)
         (sym (each_is (first_worker script.targets) (first_workers script.targets) refl (λ n. refl) (length script.targets) t no_worker here))
         (subst (λ (z : List ℕ). 0 + owed_by (0 == c) Look (slice_index z (at c 0)) ≤ tally_all script t c (start_world policies script).threads) (sym same)
@@ -274,27 +216,21 @@ module _ (targets : SoundTargets) (statements : SoundStatements) (script : Scrip
         (looking_owed (0 == c) (slice_index (free_channels n) (at c 0)) ∙ state)));
   }
     where
-      kept : IsWorld (start_world policies script)
-      kept = starts_world targets statements policies script h
-
-      runs : IsRunning script (start_world policies script)
-      runs = starts_running targets statements policies script h
-
       nothing : (a b : ℕ) → a ≡ 0 → 0 + a ≤ b
       nothing a b e = omega (arith, e)
 
-  tallied_step : (w : WorldAt) (actor : Actor) → Tallied script w → is_there script.targets actor ≡ true → Tallied script (step script w actor)
-  tallied_step w (Worker t) r e = tallied_worker script w t r (worker_is_there script w t r.kept r.runs e)
-  tallied_step w (Thread t k) r e = tallied_thread w t k r e
-
-  pub tallied_of : (w : WorldAt) → IsOfScript script w → Tallied script w
-  tallied_of w o = kept_along script (Tallied script) tallied_step (start_world o.policies script) w (leads_of script w o) (tallied_start o.policies o.ready)
+  pub tallied_of : (w : WorldAt) → IsOfScript script w → Keeps script (Tallied script) w
+  tallied_of w o =
+      holds_on targets statements script (Tallied script) (tallied_worker script) tallied_thread o.policies o.ready (tallied_start o.policies o.ready) w (leads_of script w o)
 
 -- if no thread is within a call the weights are the tallies of the results
 pub record Outside (script : Script) (c u k : ℕ) (x : RunAt) : Type 0 where
   pub its_target : x.thread.target ≡ u
   pub its_number : x.thread.thread ≡ k
   pub not_sent : has_sent c x.thread.stage ≡ false
+
+next : (k j : ℕ) → k + suc j ≡ (k + 1) + j
+next k j = omega arith
 
 one_weight : (script : Script) (t c u k : ℕ) (x : RunAt) → Outside script c u k x → tally_so_far script t c x ≡ tally_from script t c u k 0 x.results
 one_weight script t c u k x o =
@@ -311,42 +247,27 @@ rows_weight : (script : Script) (t c u k : ℕ) (runs : List RunAt) → ((j : �
     → tally_row script t c runs ≡ tally_threads script t c u k (map (λ x. x.results) runs)
 rows_weight script t c u k [] each = refl
 rows_weight script t c u k (x ∷ runs) each =
-    let first = one_weight script t c u k x (subst (λ z. Outside script c u z x) (plus_none k) (each 0 (omega arith))) in
+    let first = one_weight script t c u k x (subst (λ z. Outside script c u z x) (sym (plus_none k)) (each 0 (omega arith))) in
     let rest = rows_weight script t c u (k + 1) runs (λ j l. subst (λ z. Outside script c u z (get_or runs j no_run)) (next k j) (each (suc j) (omega (arith, l)))) in
     let both = sum_by-cons (tally_so_far script t c) x runs in
     omega (arith, first, rest, both)
-  where
-    plus_none : (k : ℕ) → k + 0 ≡ k
-    plus_none k = omega arith
-
-    next : (k j : ℕ) → k + suc j ≡ (k + 1) + j
-    next k j = omega arith
 
 all_weight : (script : Script) (t c u : ℕ) (threads : List (List RunAt)) → ((i j : ℕ) → j < length (get_or threads i []) → Outside script c (u + i) j (get_or (get_or threads i []) j no_run))
     → tally_all script t c threads ≡ tally_targets script t c u (results_of threads)
 all_weight script t c u [] each = refl
 all_weight script t c u (runs ∷ threads) each =
-    let first = rows_weight script t c u 0 runs (λ j l. subst (λ (z : ℕ × ℕ). Outside script c z.0 z.1 (get_or runs j no_run)) (λ q. (plus_none u q, zero_plus j q)) (each 0 j l)) in
+    let first = rows_weight script t c u 0 runs (λ j l. subst (λ (z : ℕ × ℕ). Outside script c z.0 z.1 (get_or runs j no_run)) (λ q. (sym (plus_none u) q, from_zero j j refl q)) (each 0 j l)) in
     let rest = all_weight script t c (u + 1) threads (λ i j l. subst (λ z. Outside script c z j (get_or (get_or threads i []) j no_run)) (next u i) (each (suc i) j l)) in
     let both = sum_by-cons (tally_row script t c) runs threads in
     omega (arith, first, rest, both)
-  where
-    plus_none : (u : ℕ) → u + 0 ≡ u
-    plus_none u = omega arith
-
-    zero_plus : (j : ℕ) → j ≡ 0 + j
-    zero_plus j = omega arith
-
-    next : (u i : ℕ) → u + suc i ≡ (u + 1) + i
-    next u i = omega arith
 
 -- on a channel of a world of a script
-few_so_far : SoundTargets → SoundStatements → (script : Script) (w : WorldAt) → Tallied script w → (t c : ℕ) → t < length script.targets → c < channels_of (slice_get script.targets t)
+few_so_far : SoundTargets → SoundStatements → (script : Script) (w : WorldAt) → Keeps script (Tallied script) w → (t c : ℕ) → t < length script.targets → c < channels_of (slice_get script.targets t)
     → entries_on t c w.shared.book.entries ≤ tally_all script t c w.threads
 few_so_far targets statements script w is t c l m =
     let there = subst (λ n. t < n) (sym (as_many script w is.kept is.runs)) l in
     let size = (targets_there script w is.kept is.runs t l).sized in
-    let few = is.few t c there (omega (arith, size, m)) in
+    let few = is.has.few t c there (omega (arith, size, m)) in
     at_most _ _ _ few
   where
     at_most : (a b d : ℕ) → a + b ≤ d → a ≤ d
@@ -357,7 +278,7 @@ module _ (targets : SoundTargets) (statements : SoundStatements) (policies : Lis
   abbrev w : WorldAt
   w = drained (played policies script schedule)
 
-  is : Tallied script w
+  is : Keeps script (Tallied script) w
   is = tallied_of targets statements script w (of_end targets statements policies script schedule can)
 
   same_threads : w.threads ≡ (played policies script schedule).threads
@@ -369,10 +290,7 @@ module _ (targets : SoundTargets) (statements : SoundStatements) (policies : Lis
       let x = (run_at w i j).thread in
       let over = each_finished script w.threads (ap (λ threads. first_unfinished script threads) same_threads ∙ finished) i j l in
       let last = (is.runs.stands i j l).over ∙ none_behind (statements_of script x.target x.thread) x.place over in
-      record { its_target = its.its_target ∙ zero_plus i; its_number = its.its_number; not_sent = ap (λ s. has_sent c s) (over_is x.stage last) }
-    where
-      zero_plus : (i : ℕ) → i ≡ 0 + i
-      zero_plus i = omega arith
+      record { its_target = its.its_target ∙ from_zero i i refl; its_number = its.its_number; not_sent = ap (λ s. has_sent c s) (over_is x.stage last) }
 
   few_entries : (t c : ℕ) → t < length script.targets → c < channels_of (slice_get script.targets t)
       → entries_on t c w.shared.book.entries ≤ tally_targets script t c 0 (results_of (played policies script schedule).threads)

@@ -1,51 +1,24 @@
 -- What each thread comes to depends on the values that its own steps found alone.
-use Rattle.std.proofs.Common.{◌≡◌, ◌≢◌, ◌∙◌, refl, sym, subst, ap, ℕ, zero, suc, ◌<◌, Bool, true, false, cond, eqb, ◌&&◌, List, [], ◌∷◌, ◌++◌, length, set, get_or, get_or-set_same, append_assoc, arith, eq-eqb}
-use Rattle.std.proofs.lemmas.Bool.{and_from, and_parts, eqb-true}
-use Rattle.std.proofs.lemmas.List.{append-nil}
-use Rattle.std.specs.Option.{option_to_list}
-use Rattle.sb_actor.specs.Acts.{value_in}
-use Rattle.sb_actor.specs.Findings.{ValuesTell, results_of_values, after_values}
-use Rattle.sb_actor.specs.ThreadTable.{ThreadNext, thread_after, thread_plan}
-use Rattle.sb_statements.specs.Actors.{is_there}
-use Rattle.sb_statements.specs.Soundness.{SoundStatements}
-use Rattle.sb_statements.specs.declared.schedules.Actor.{Actor}
-use Rattle.sb_statements.specs.declared.schedules.Actor.TheVariants.{Thread, Worker}
-use Rattle.sb_statements.specs.declared.scripts.Script.{Script}
-use Rattle.sb_core.specs.Actors.{are_there}
-use Rattle.sb_core.specs.Findings.{ThreadsFollowTheirValues, found_by}
-use Rattle.sb_core.specs.Kept.{IsRunning, IsWorld}
-use Rattle.sb_core.specs.Shared.{on_word}
-use Rattle.sb_core.specs.Threads.{RunAt, no_run, thread_step}
-use Rattle.sb_core.specs.Worlds.{WorldAt, run_at, step, steps, threads_at}
-use Rattle.sb_core.proofs.Changing.{other_run}
+use Rattle.std.proofs.Common.{◌≡◌, ◌≢◌, ◌∙◌, refl, sym, subst, ap, ℕ, ◌<◌, Bool, true, false, cond, eqb, ◌&&◌, List, [], ◌∷◌, ◌++◌, length, set, get_or, get_or-set_same, append_assoc, arith, eq-eqb, ◌≤◌, ltb, Option, None, Some, slice_get}
+use Rattle.std.proofs.lemmas.Bool.{eqb-true}
+use Rattle.sb_core.proofs.Names.{Actor, after_values, and_from, and_parts, append-nil, are_there, AreCaused, AreRounds, first_unfinished, found_by, in_turn, is_there, IsCaused, IsRunning, IsWorld, nat_tests, no_run, on_word, option_to_list, played, results_of, results_of_values, ResultsHaveCauses, round_actors, rounds, run_actors, run_at, RunAt, RunsAreCaused, scheduled, Script, SoundStatements, SoundTargets, start_world, step, steps, StmtResult, Thread, thread_after, thread_plan, thread_start, thread_step, ThreadNext, threads_at, ThreadsFollowTheirValues, value_in, ValuesTell, Worker, WorldAt, WorldsAreCaused}
+use Rattle.sb_core.proofs.Changing.{other_run, thread_parts}
 use Rattle.sb_core.proofs.Running.{step_keeps}
-
-row_there : (rows : List (List RunAt)) (t k : ℕ) → k < length (get_or rows t []) → t < length rows
-row_there [] t k l = absurd (omega (arith, l))
-row_there (row ∷ rows) zero k l = omega arith
-row_there (row ∷ rows) (suc t) k l = let m = row_there rows t k l in omega (arith, m)
-
--- the numbers of an actor's thread
-abbrev target_in : Actor → ℕ
-target_in (Worker u) = u
-target_in (Thread u j) = u
-
-abbrev number_in : Actor → ℕ
-number_in (Worker u) = 0
-number_in (Thread u j) = j
+use Rattle.sb_core.proofs.Existence.{listed}
+use Rattle.sb_core.specs.Runs.{ended}
+use Rattle.sb_core.proofs.Folding.{steps_append}
+use Rattle.sb_core.proofs.Beginning.{rounds_are_steps, turns_there}
+use Rattle.sb_core.proofs.Numbers.{none_of}
+use Rattle.sb_core.proofs.RunLaws.{no_run_past, results_at}
+use Rattle.sb_core.proofs.Bounds.{ready_sound}
+use Rattle.sb_core.proofs.Starting.{start_run, starts_keep}
+use Rattle.sb_core.proofs.Stepping.{all_append, kept_along, leads_by, rounds_there, scheduled_there}
 
 differ : (u j t k : ℕ) → (eqb u t && eqb j k) ≡ false → Thread u j ≡ Thread t k → ⊥
 differ u j t k e f =
-    let s = eq-eqb u t (target_is u j t k f) in
-    let r = eq-eqb j k (number_is u j t k f) in
-    let both = and_from (eqb u t) (eqb j k) s r in
+    let parts = thread_parts u j t k f in
+    let both = and_from (eqb u t) (eqb j k) (eq-eqb u t parts.0) (eq-eqb j k parts.1) in
     absurd (cc)
-  where
-    target_is : (u j t k : ℕ) → Thread u j ≡ Thread t k → u ≡ t
-    target_is u j t k f = ap target_in f
-
-    number_is : (u j t k : ℕ) → Thread u j ≡ Thread t k → j ≡ k
-    number_is u j t k f = ap number_in f
 
 module _ (script : Script) where
   -- thread k of target t in the second world is what these values make of it in the first
@@ -68,7 +41,7 @@ module _ (script : Script) where
   made : (w : WorldAt) (t k : ℕ) → k < length (threads_at w t) → run_at (step script w (Thread t k)) t k ≡ (thread_step script w.shared (run_at w t k)).run
   made w t k l =
       let y = (thread_step script w.shared (run_at w t k)).run in
-      ap (λ (row : List RunAt). get_or row k no_run) (get_or-set_same w.threads t (set (threads_at w t) k y) [] (row_there w.threads t k l))
+      ap (λ (row : List RunAt). get_or row k no_run) (get_or-set_same w.threads t (set (threads_at w t) k y) [] (listed w.threads t k l))
       ∙ get_or-set_same (threads_at w t) k y no_run l
 
   -- a step of this thread, or of another one
@@ -108,3 +81,72 @@ module _ (script : Script) where
 
 pub threads_follow : ValuesTell → SoundStatements → ThreadsFollowTheirValues
 threads_follow law sound script actors w t k kept runs e l = along script law sound actors w t k kept runs e l
+
+module _ (law : ValuesTell) (causes : ResultsHaveCauses) (targets : SoundTargets) (statements : SoundStatements) where
+  pub worlds_are_caused : WorldsAreCaused
+  worlds_are_caused policies script actors ready there t k i r e = by_test (ltb k (length (threads_at start t))) refl
+    where
+      start : WorldAt
+      start = start_world policies script
+
+      end_world : WorldAt
+      end_world = steps script actors start
+
+      found : slice_get (run_at end_world t k).results i ≡ Some r
+      found = sym (results_at end_world.threads t k i) ∙ e
+
+      keeps : IsWorld start × IsRunning script start
+      keeps = starts_keep targets statements policies script ready
+
+      runs : IsRunning script end_world
+      runs =
+          (kept_along script (λ v. IsWorld v × IsRunning script v) (λ v actor both f. step_keeps statements script v actor both.0 both.1 f) start end_world
+          (leads_by script actors start there) keeps).1
+
+      by_test : (b : Bool) → ltb k (length (threads_at start t)) ≡ b → IsCaused script t k (found_by script t k actors start) i r
+      by_test true f =
+          let here : k < length (threads_at start t) = grind (arith, nat_tests) in
+          let told = (threads_follow law statements script actors start t k keeps.0 keeps.1 there here).1 in
+          let values = found_by script t k actors start in
+          let all : (run_at end_world t k).results ≡ results_of_values script (thread_start script t k) values =
+          subst (λ (x : RunAt). (run_at end_world t k).results ≡ x.results ++ results_of_values script x.thread values) (start_run targets statements policies script ready t k here) told in
+          causes script t k values i r (ready_sound policies script ready) (ap (λ (l : List StmtResult). slice_get l i) (sym all) ∙ found)
+      by_test false f =
+          let before = keeps.1.threads t in
+          let after = runs.threads t in
+          let past : length (threads_at start t) ≤ k = grind (arith, nat_tests) in
+          absurd (none_of i r (ap (λ (x : RunAt). slice_get x.results i) (sym (no_run_past (threads_at end_world t) k (omega (arith, before, after, past)))) ∙ found))
+
+  pub runs_are_caused : RunsAreCaused
+  runs_are_caused policies script schedule can = record {
+    whole = made.whole;
+    few = made.few;
+    is = is;
+    caused = by_end (first_unfinished script end_world.threads);
+  }
+    where
+      start : WorldAt
+      start = start_world policies script
+
+      end_world : WorldAt
+      end_world = played policies script schedule
+
+      made : AreRounds schedule.rounds script (steps script (scheduled schedule.steps) start) (rounds schedule.rounds script (steps script (scheduled schedule.steps) start))
+      made = (rounds_are_steps schedule.rounds script (steps script (scheduled schedule.steps) start)).0
+
+      is : end_world ≡ steps script (run_actors script schedule made.whole) start
+      is = made.is ∙ sym (steps_append script (scheduled schedule.steps) (in_turn made.whole (round_actors script.targets)) start)
+
+      there : are_there script.targets (run_actors script schedule made.whole) ≡ true
+      there =
+          all_append (is_there script.targets) (scheduled schedule.steps) (in_turn made.whole (round_actors script.targets)) (scheduled_there script.targets schedule.steps can.there)
+          (turns_there script.targets (round_actors script.targets) made.whole (rounds_there script.targets))
+
+      caused : AreCaused policies script (run_actors script schedule made.whole) (results_of end_world.threads)
+      caused =
+          subst (λ (w : WorldAt). AreCaused policies script (run_actors script schedule made.whole) (results_of w.threads)) (sym is)
+          (worlds_are_caused policies script (run_actors script schedule made.whole) can.ready there)
+
+      by_end : (o : Option (ℕ × ℕ)) → AreCaused policies script (run_actors script schedule made.whole) (ended end_world o).report.results
+      by_end None = caused
+      by_end (Some thread) = caused

@@ -1,37 +1,17 @@
 -- A step of a thread keeps what every world keeps, and what a world keeps of its script.
-use Rattle.std.proofs.Common.{◌≡◌, ◌∙◌, refl, ap, subst, sym, ℕ, zero, suc, ◌+◌, ◌<◌, ◌≤◌, Bool, true, List, [], ◌∷◌, ◌++◌, length, length-append, length-set, set, get_or, Option, None, Some, IfSome, is_none, slice_get, lit≤, lit<, arith}
-use Rattle.std.proofs.lemmas.Bool.{and_parts}
-use Rattle.std.proofs.lemmas.Bool.Decides.{nat_tests}
-use Rattle.std.specs.Prelude.{nat_le, slice_index}
-use Rattle.std.specs.Option.{option_to_list}
-use Rattle.sb_actor.specs.Places.{block_of, first_stage, is_call, mark_at, statement_at, statements_of}
-use Rattle.sb_actor.specs.Ranges.{IsSoundThreadStage}
-use Rattle.sb_actor.specs.ThreadStages.{ThreadStage, ThreadAt}
-use Rattle.sb_actor.specs.ThreadTable.{ThreadNext, ends, goes_on, thread_after, thread_plan}
-use Rattle.sb_actor.specs.declared.acts.Act.{Act}
+use Rattle.std.proofs.Common.{◌≡◌, ◌∙◌, refl, ap, subst, sym, ℕ, zero, suc, ◌+◌, ◌<◌, ◌≤◌, Bool, true, List, [], ◌∷◌, ◌++◌, length, length-append, length-set, set, get_or, Option, None, Some, IfSome, is_none, slice_get, lit≤, lit<, arith, false, ◌&&◌, ◌==◌}
+use Rattle.sb_core.proofs.Names.{Abandon, abandoned, Act, and_parts, block, block_of, CallResult, changed, channels_at, ends, exchanged, first_stage, Free, goes_on, has_word, HasRoom, is_call, is_calling, is_holder, is_over, is_patience, is_result_of, is_sound, is_statement, IsActThere, IsAtStatement, IsRunning, IsRunOf, IsSoundThreadStage, IsWorkerOf, IsWorld, loaded, mark_at, nat_le, nat_tests, no_run, Observation, on_word, option_to_list, place_of, read_reply, run_at, RunAt, Script, Send, Sets, SharedAt, slice_index, SoundStatements, SoundTargets, Statement, statement_at, statements_of, step, StmtResult, stored, Stray, TargetScript, Thread, thread_after, thread_plan, thread_step, ThreadAt, ThreadNext, threads_at, ThreadStage, Wait, Word, words_of, worker_at, WorldAt}
+use Rattle.sb_actor.specs.ThreadStages.{Try, Fill, Fetch}
 use Rattle.sb_actor.specs.declared.acts.Act.TheVariants as act
-use Rattle.sb_actor.specs.Observations.{Observation}
-use Rattle.sb_block.specs.Blocks.{block}
 use Rattle.sb_call.specs.Arguments.{fits}
 use Rattle.sb_statements.specs.Limits.{most_statements}
-use Rattle.sb_statements.specs.Soundness.{SoundStatements, SoundTargets, is_patience, is_sound, is_statement, has_word}
-use Rattle.sb_statements.specs.declared.results.StmtResult.{StmtResult}
-use Rattle.sb_statements.specs.declared.schedules.Actor.TheVariants.{Thread}
-use Rattle.sb_statements.specs.declared.scripts.Script.{Script}
-use Rattle.sb_statements.specs.declared.scripts.TargetScript.{TargetScript}
-use Rattle.sb_statements.specs.declared.statements.Statement.{Statement}
-use Rattle.sb_statements.specs.declared.statements.Word.{Word}
+use Rattle.sb_statements.specs.declared.results.CallResult.TheVariants as call
+use Rattle.sb_statements.specs.declared.results.StmtResult.TheVariants as result
 use Rattle.sb_statements.specs.declared.statements.Statement.TheVariants as statement
-use Rattle.sb_core.specs.Kept.{IsAtStatement, IsRunOf, IsRunning, IsWorkerOf, IsWorld, channels_at, is_calling, is_holder, is_over}
-use Rattle.sb_core.specs.Shared.{IsActThere, SharedAt, Sets, changed, on_word}
-use Rattle.sb_core.specs.Threads.{HasRoom, RunAt, no_run, thread_step}
-use Rattle.sb_core.specs.Words.{exchanged, loaded, stored, words_of}
-use Rattle.sb_statements.specs.Words.{place_of}
-use Rattle.sb_core.specs.Worlds.{WorldAt, run_at, step, threads_at, worker_at}
 use Rattle.sb_core.proofs.Bounds.{few_statements, ready_sound, some_patience}
 use Rattle.sb_core.proofs.Sets.{each_set, lengths_set, sizes_set}
-use Rattle.sb_core.proofs.There.{listed, sound_at, thread_there}
-use Rattle.sb_core.proofs.ThreadRows.{IsOwnResult, row_leads}
+use Rattle.sb_core.proofs.Existence.{listed, sound_at, thread_there, run_kept, worker_kept}
+use Rattle.sb_core.proofs.ThreadRows.{IsOwnResult, CallRows, DirectRows, walk}
 
 -- a statement that is there has a place before the end
 pub within : {X : Type 0} (xs : List X) (i : ℕ) (x : X) → slice_get xs i ≡ Some x → i < length xs
@@ -85,22 +65,17 @@ pub record Leads (script : Script) (x : ThreadAt) (n : ThreadNext) : Type 0 wher
 
 module _ (script : Script) (x : ThreadAt) (sound : is_sound script ≡ true) (law : SoundStatements) (some : 0 < length x.clean) (waits : 0 < x.patience)
     (short : length x.block ≤ 64) (at : IsAtStatement script x) where
-  goes_leads : (s : ThreadStage) → IsSoundThreadStage (length x.clean) x.patience x.block s → is_calling s ≡ is_calling x.stage → is_over s ≡ is_over x.stage
-      → Leads script x (goes_on x s)
+  abbrev here : Option Statement
+  here = statement_at script x.target x.thread x.place
+
+  goes_leads : (s : ThreadStage) → IsSoundThreadStage (length x.clean) x.patience x.block s → is_calling s ≡ is_call here → is_over s ≡ is_none here → Leads script x (goes_on x s)
   goes_leads s stage calling over = record {
     its_target = refl;
     its_number = refl;
     its_clean = refl;
     short = short;
     sound = stage;
-    stands = record {
-      place = at.place;
-      calling = calling ∙ at.calling;
-      over = over ∙ at.over;
-      block = at.block;
-      patience = at.patience;
-      clean = at.clean;
-    };
+    stands = record { place = at.place; calling = calling; over = over; block = at.block; patience = at.patience; clean = at.clean };
     counted = none x.place;
     own = tt;
   }
@@ -131,11 +106,54 @@ module _ (script : Script) (x : ThreadAt) (sound : is_sound script ≡ true) (la
         own = own;
       }
 
-  pub leads : (stage : ThreadStage) → stage ≡ x.stage → IsSoundThreadStage (length x.clean) x.patience x.block x.stage → (seen : Observation)
-      → Leads script x (thread_after script x seen)
-  leads stage e s seen =
-      row_leads script x (Leads script x) waits x.stage s at.calling at.over goes_leads ends_leads
-      (goes_leads x.stage s refl refl) seen
+  module _ (calls : is_call here ≡ true) where
+    call_goes : (s : ThreadStage) → IsSoundThreadStage (length x.clean) x.patience x.block s → is_calling s ≡ true → is_over s ≡ false → Leads script x (goes_on x s)
+    call_goes s stage calling over = goes_leads s stage (calling ∙ sym calls) (over ∙ sym (is_there here calls))
+      where
+        is_there : (o : Option Statement) → is_call o ≡ true → is_none o ≡ false
+        is_there (Some s) e = refl
+        is_there None e = absurd (cc)
+
+    call_ends : (r : CallResult) → Leads script x (ends script x (result.Call r))
+    call_ends r = ends_leads (result.Call r) (of_call here calls)
+      where
+        of_call : (o : Option Statement) → is_call o ≡ true → (s : Statement) × (o ≡ Some s) × (is_result_of s (result.Call r) ≡ true)
+        of_call (Some (statement.Call tag args)) e = (statement.Call tag args, refl, refl)
+        of_call _ e = absurd (cc)
+
+    call_leads : CallRows script x (λ stage n next. Leads script x next)
+    call_leads = record {
+      took = λ c r n a w b. call_goes (Fill c 0) (w, b) refl refl;
+      tried = λ c r n a w p b. call_goes (Try (c + 1) r (a && n == abandoned)) (w, p, b) refl refl;
+      round = λ c r m n a w p b. call_goes (Try 0 m true) (w, p, b) refl refl;
+      none = λ c r n a e h. call_ends call.NoChannel;
+      filled = λ c i n w l. call_goes (Fill c (i + 1)) (w, l) refl refl;
+      whole = λ c i n w. call_goes (Send c) w refl refl;
+      sent = λ c n w. call_goes (Wait c 0) (w, waits) refl refl;
+      lost = λ c n w e. call_ends (call.SendLost c n);
+      replied = λ c l n w. call_goes (Fetch c []) (w, lit< tt) refl refl;
+      waits_on = λ c l m n w p. call_goes (Wait c m) (w, p) refl refl;
+      tired = λ c l n w. call_goes (Abandon c) w refl refl;
+      fetched = λ c n ws w l. call_goes (Fetch c (ws ++ n ∷ [])) (w, l) refl refl;
+      read = λ c n ws w e. call_goes (Free c (ws ++ n ∷ [])) (w, e) refl refl;
+      own = λ c n ws w e m. call_ends (call.Reply c (read_reply ws));
+      foreign = λ c n ws w e m. call_ends (call.Foreign c (slice_index ws 0));
+      given_up = λ c n w. call_ends (call.TimedOut c);
+    }
+
+  direct_leads : DirectRows script x (λ stage n next. Leads script x next)
+  direct_leads = record {
+    store_ends = λ l m n t w v e. ends_leads result.Stored (statement.Store t w v, e, refl);
+    exchange_ends = λ l m n t w from to e. ends_leads (result.Found n) (statement.Exchange t w from to, e, refl);
+    load_ends = λ l m n t w e. ends_leads (result.Found n) (statement.Load t w, e, refl);
+    met = λ l m n t w v k e low. ends_leads (result.Met (l + 1)) (statement.Wait t w v k, e, refl);
+    unmet = λ l m n t w v k e last. ends_leads (result.Unmet m) (statement.Wait t w v k, e, refl);
+    again = λ l m n t w v k e low. goes_leads (Stray (l + 1) m) low (sym (ap (λ o. is_call o) e)) (sym (ap (λ o. is_none o) e));
+  }
+
+  pub leads : IsSoundThreadStage (length x.clean) x.patience x.block x.stage → (seen : Observation) → Leads script x (thread_after script x seen)
+  leads s seen =
+      walk script x (λ stage n next. Leads script x next) call_leads direct_leads (λ n. goes_leads x.stage s at.calling at.over) x.stage s at.calling at.over seen
 
 -- A step on words leaves their sizes, the book and the turn
 pub record KeepsSizes (s u : SharedAt) : Type 0 where
@@ -199,7 +217,7 @@ module _ (script : Script) (w : WorldAt) (t k : ℕ) (kept : IsWorld w) (runs : 
 
   pub facts : Leads script mine.thread n
   facts =
-      leads script mine.thread (ready_sound runs.policies script runs.ready) law some_clean waits (kept.threads t k there).short (runs.stands t k there) mine.thread.stage refl
+      leads script mine.thread (ready_sound runs.policies script runs.ready) law some_clean waits (kept.threads t k there).short (runs.stands t k there)
       (kept.threads t k there).sound (on_word w.shared (thread_plan script mine.thread)).seen
 
   channels_stay : (u : ℕ) → channels_at after u ≡ channels_at w u
@@ -207,16 +225,7 @@ module _ (script : Script) (w : WorldAt) (t k : ℕ) (kept : IsWorld w) (runs : 
 
   -- another thread, or this one before its step
   old_run : (u j : ℕ) → j < length (threads_at w u) → IsRunOf after u j (run_at w u j)
-  old_run u j l =
-      let x = kept.threads u j l in
-      record {
-        its_target = x.its_target;
-        its_number = x.its_number;
-        its_channels = x.its_channels ∙ sym (channels_stay u);
-        short = x.short;
-        sound = x.sound;
-        counted = x.counted;
-      }
+  old_run u j l = run_kept w after u j (run_at w u j) (channels_stay u) (kept.threads u j l)
 
   new_run : IsRunOf after t k y
   new_run =
@@ -231,17 +240,7 @@ module _ (script : Script) (w : WorldAt) (t k : ℕ) (kept : IsWorld w) (runs : 
       }
 
   old_worker : (u : ℕ) → u < length w.workers → IsWorkerOf after u (worker_at w u)
-  old_worker u l =
-      let x = kept.workers u l in
-      record {
-        its_target = x.its_target;
-        its_channels = x.its_channels ∙ sym (channels_stay u);
-        within = x.within;
-        few = x.few;
-        sound = x.sound;
-        sized = keeps.sizes u ∙ x.sized;
-        turn = x.turn ∙ ap (λ turn. is_holder turn u) (sym keeps.turn);
-      }
+  old_worker u l = worker_kept w after u (worker_at w u) (channels_stay u) (keeps.sizes u) (ap (λ turn. is_holder turn u) keeps.turn) (kept.workers u l)
 
   pub thread_keeps : IsWorld after
   thread_keeps = record {

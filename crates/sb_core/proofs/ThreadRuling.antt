@@ -1,48 +1,19 @@
 -- A step of a thread keeps the rule of each target, and a result that it ends with suits its statement.
 use Rattle.std.proofs.Common.{◌≡◌, ◌≢◌, ◌∙◌, refl, ap, subst, sym, ℕ, ◌+◌, ◌<◌, Bool, true, false, ◌==◌, if◌then◌else◌, List, [], ◌∷◌, ◌++◌, append_assoc, length, set, get_or-set_same, get_or-set_other, Option, None, Some, IfSome, arith}
-use Rattle.std.proofs.lemmas.List.{append-nil}
-use Rattle.std.specs.Option.{option_to_list}
-use Rattle.std.specs.Prelude.{slice_index}
-use native.Mathlib.Decide.{ℕ_discrete}
-use Rattle.sb_actor.specs.Acts.{value_in}
-use Rattle.sb_actor.specs.Following.{Tells, act_word, act_wrote}
-use Rattle.sb_actor.specs.Moves.{Deed, IsBlock, StrayMay, met, no_call, wrote}
-use Rattle.sb_actor.specs.Moves.{take_it, fill, send, wait, fetch, free, abandon}
-use Rattle.sb_actor.specs.Places.{block_of, clean_channels, is_call, mark_at, statement_at, statements_of}
-use Rattle.sb_actor.specs.ThreadFollowing.{GivesUp}
-use Rattle.sb_actor.specs.ThreadStages.{ThreadStage, ThreadAt}
+use Rattle.sb_core.proofs.Names.{abandon, Act, act_word, act_wrote, append-nil, AreViews, block, block_of, calls_at, clean_channels, Deed, ends, fetch, fill, GivesUp, goes_on, InRule, is_call, is_calling, is_statement, IsActThere, IsBlock, IsRunning, IsWorld, mark_at, mark_in, met, no_call, Observation, on_word, option_to_list, own_calls, own_from, own_of, OwnCall, RuleLaws, run_at, RunAt, Script, send, Served, SharedAt, slice_index, SoundStatements, SoundTargets, Statement, statement_at, statements_of, step, StmtResult, stray_row, StrayMay, take_it, TargetViews, Tells, Thread, thread_after, thread_deed, thread_place_of, thread_plan, ThreadAt, ThreadNext, threads_at, ThreadStage, value_in, wait, words_of, worker_at, WorldAt, wrote, ℕ_discrete}
+use Rattle.sb_actor.specs.Moves.{free}
 use Rattle.sb_actor.specs.ThreadStages as thread
-use Rattle.sb_actor.specs.ThreadTable.{ThreadNext, ends, goes_on, stray_row, thread_after, thread_plan}
-use Rattle.sb_actor.specs.Ties.{thread_deed, thread_place_of}
-use Rattle.sb_actor.specs.declared.acts.Act.{Act}
-use Rattle.sb_actor.specs.Observations.{Observation}
-use Rattle.sb_actor.specs.Views.{Served}
-use Rattle.sb_block.specs.Blocks.{block}
-use Rattle.sb_block.specs.Layout.{mark_in}
-use Rattle.sb_statements.specs.Soundness.{SoundStatements, SoundTargets, is_statement}
-use Rattle.sb_statements.specs.declared.results.StmtResult.{StmtResult}
 use Rattle.sb_statements.specs.declared.results.StmtResult.TheVariants as result
-use Rattle.sb_statements.specs.declared.schedules.Actor.TheVariants.{Thread}
-use Rattle.sb_statements.specs.declared.scripts.Script.{Script}
-use Rattle.sb_statements.specs.declared.statements.Statement.{Statement}
 use Rattle.sb_statements.specs.declared.statements.Statement.TheVariants as statement
-use Rattle.sb_core.specs.Kept.{IsRunning, IsWorld, is_calling}
-use Rattle.sb_core.specs.Shared.{IsActThere, SharedAt, on_word}
-use Rattle.sb_core.specs.Threads.{RunAt}
-use Rattle.sb_core.specs.Views.{AreViews, InRule, OwnCall, TargetViews, calls_at, own_calls, own_from, own_of}
-use Rattle.sb_core.specs.Words.{words_of}
-use Rattle.sb_core.specs.Worlds.{WorldAt, run_at, step, threads_at, worker_at}
-use Rattle.sb_core.proofs.PlacedUnits.{HasUnits}
 use Rattle.sb_core.proofs.DirectStores.{by_hand}
 use Rattle.sb_core.proofs.Bounds.{few_statements, ready_sound}
 use Rattle.sb_core.proofs.Learning.{learned}
-use Rattle.sb_core.proofs.Naming.{named_words, names, other_words, tells}
 use Rattle.sb_core.proofs.Opening.{first_place}
-use Rattle.sb_core.proofs.ViewSteps.{RuleLaws, stray_moves, thread_moves, thread_stays}
-use Rattle.sb_core.proofs.There.{listed, sound_at, thread_there}
+use Rattle.sb_core.proofs.ViewSteps.{stray_moves, thread_moves, thread_stays, named_words, names, other_words, tells}
+use Rattle.sb_core.proofs.Existence.{listed, sound_at, thread_there, HasUnits}
 use Rattle.sb_core.proofs.ThreadKeeping.{facts, thread_book, within}
-use Rattle.sb_core.proofs.Tidings.{Learns, Tidings, Waits, ended_own, own_by, own_in, row_tells}
-use Rattle.sb_core.proofs.Numbers.{apart, self_same}
+use Rattle.sb_core.proofs.ThreadResults.{Learns, StepResult, Waits, ended_own, own_by, own_in, step_tells}
+use Rattle.sb_core.proofs.Numbers.{apart, self_same, from_zero}
 
 -- the calls of results with one more
 own_option : Script → ℕ → ℕ → ℕ → Option StmtResult → List OwnCall
@@ -62,15 +33,9 @@ own_more script t k i j (q ∷ results) o e =
 
 -- a call's step is on a word of its own target
 call_names : (script : Script) (x : ThreadAt) (u : ℕ) (stage : ThreadStage) → is_calling stage ≡ true → names (thread_plan script (record x { stage = stage })) u ≡ (x.target == u)
-call_names script x u (thread.Try c rounds all_abandoned) e = refl
-call_names script x u (thread.Fill c i) e = refl
-call_names script x u (thread.Send c) e = refl
-call_names script x u (thread.Wait c loads) e = refl
-call_names script x u (thread.Fetch c words) e = refl
-call_names script x u (thread.Free c words) e = refl
-call_names script x u (thread.Abandon c) e = refl
 call_names script x u (thread.Stray loads most) e = absurd (cc)
 call_names script x u thread.Over e = absurd (cc)
+call_names script x u _ e = refl
 
 -- and is of a kind
 call_deed : (block : List ℕ) (stage : ThreadStage) → is_calling stage ≡ true → (d : Deed) × (thread_deed block stage ≡ Some d)
@@ -87,14 +52,8 @@ call_deed block _ e = absurd (cc)
 learned_here : (script : Script) (x : ThreadAt) (stage : ThreadStage) (n : ℕ) (seen : Observation) → (is_calling stage ≡ true → Tells (thread_plan script (record x { stage = stage })) n seen)
     → Learns script x stage n → Learns script x stage (value_in seen)
 learned_here script x (thread.Try c rounds all_abandoned) n seen t l = subst (λ z. Learns script x (thread.Try c rounds all_abandoned) z) (sym (t refl)) l
-learned_here script x (thread.Fill c i) n seen t l = l
 learned_here script x (thread.Send c) n seen t l = subst (λ z. Learns script x (thread.Send c) z) (sym (t refl)) l
-learned_here script x (thread.Wait c loads) n seen t l = l
-learned_here script x (thread.Fetch c words) n seen t l = l
-learned_here script x (thread.Free c words) n seen t l = l
-learned_here script x (thread.Abandon c) n seen t l = l
-learned_here script x (thread.Stray loads most) n seen t l = l
-learned_here script x thread.Over n seen t l = l
+learned_here script x _ n seen t l = l
 
 -- the mark of a call's block
 marked : (mark : ℕ) (o : Option Statement) → is_call o ≡ true → mark_in (block_of mark o) ≡ mark
@@ -199,9 +158,9 @@ module _ (laws : RuleLaws) (law : SoundStatements) (bounds : SoundTargets) (scri
   its_block e = subst (λ (b : List ℕ). IsBlock y.thread b) (sym (runs.stands t k there).block) (whole_block here refl (sym (runs.stands t k there).calling ∙ e))
 
   -- what the thread knows
-  pub tidings : Tidings script y y.stage n
-  tidings =
-      row_tells script y y.stage refl its_mark (kept.threads t k there).sound (runs.stands t k there).calling (runs.stands t k there).over seen
+  pub step_result : StepResult script y y.stage n
+  step_result =
+      step_tells script y its_mark waits (kept.threads t k there).sound (runs.stands t k there).calling (runs.stands t k there).over seen
       (learned_here script y y.stage (slice_index (words_of w.shared.words t) (act_word plan)) seen
       (λ e. tells w.shared plan t (call_names script y t y.stage e ∙ ap (λ u. u == t) its_target ∙ self_same t))
       (learned script t (words_of w.shared.words t) (calls_at t w.shared.book.entries) (worker_at w t) (threads_at w t) (all t worker_here).0 (all t worker_here).1 k there
@@ -211,12 +170,9 @@ module _ (laws : RuleLaws) (law : SoundStatements) (bounds : SoundTargets) (scri
   more_calls : own_calls script t k z.results ≡ own_calls script t k x.results ++ own_by y y.stage
   unfolding own_option
   more_calls =
-      own_more script t k 0 y.place x.results n.ended (place_is (length x.results) y.place (kept.threads t k there).counted)
-      ∙ ap (λ (q : List OwnCall). own_calls script t k x.results ++ q) (of_end n.ended ∙ tidings.own)
+      own_more script t k 0 y.place x.results n.ended (from_zero (length x.results) y.place (kept.threads t k there).counted)
+      ∙ ap (λ (q : List OwnCall). own_calls script t k x.results ++ q) (of_end n.ended ∙ step_result.own)
     where
-      place_is : (a b : ℕ) → a ≡ b → b ≡ 0 + a
-      place_is a b e = omega (arith, e)
-
       of_end : (o : Option StmtResult) → own_option script t k y.place o ≡ own_in y o
       of_end None = refl
       of_end (Some r) =
@@ -249,16 +205,9 @@ module _ (laws : RuleLaws) (law : SoundStatements) (bounds : SoundTargets) (scri
       by_stage : (stage : ThreadStage) → y.stage ≡ stage → is_calling stage ≡ false → names (thread_plan script (record y { stage = stage })) u ≡ true
           → (d : Deed) × StrayMay (clean_channels script u) (act_word (thread_plan script (record y { stage = stage }))) d
           × ((m : ℕ) → wrote d (met d m) m ≡ act_wrote (thread_plan script (record y { stage = stage })) m)
-      by_stage (thread.Try c rounds all_abandoned) q f g = absurd (cc)
-      by_stage (thread.Fill c i) q f g = absurd (cc)
-      by_stage (thread.Send c) q f g = absurd (cc)
-      by_stage (thread.Wait c loads) q f g = absurd (cc)
-      by_stage (thread.Fetch c words) q f g = absurd (cc)
-      by_stage (thread.Free c words) q f g = absurd (cc)
-      by_stage (thread.Abandon c) q f g = absurd (cc)
       by_stage (thread.Stray loads most) q f g =
           by_hand script (record y { stage = thread.Stray loads most }) loads most here refl (sound_at script y.target y.thread y.place (ready_sound runs.policies script runs.ready) law) u g
-      by_stage thread.Over q f g = absurd (cc)
+      by_stage _ q f g = absurd (cc)
 
       by_name : (b : Bool) → names plan u ≡ b → (views : TargetViews) × AreViews script u (words_of s.words u) (calls_at u w.shared.book.entries) (worker_at w u) (threads_at w u) views
       by_name true f =

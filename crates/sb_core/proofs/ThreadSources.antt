@@ -1,31 +1,15 @@
 -- A step of a thread stores, fetches and tells values that have a source.
-use Rattle.std.proofs.Common.{◌≡◌, inl, inr, ◌∙◌, refl, ap, subst, sym, ℕ, zero, suc, ◌+◌, ◌<◌, ◌≤◌, min, Bool, true, false, ◌&&◌, ◌==◌, if◌then◌else◌, List, [], ◌∷◌, ◌++◌, length, length-drop, take, drop, get_or-drop, Option, None, Some, IfSome, slice_get, lit<, lit≤, arith}
-use Rattle.std.proofs.lemmas.Bool.{and_parts}
-use Rattle.std.proofs.lemmas.Bool.Decides.{nat_tests}
-use Rattle.std.specs.Prelude.{is_none, nat_le, nat_lt, slice_index}
-use Rattle.sb_actor.specs.Acts.{value_in, free, busy, acknowledged, abandoned}
-use Rattle.sb_actor.specs.Moves.{at}
-use Rattle.sb_actor.specs.Places.{block_of, first_stage, is_call, mark_at, statement_at}
-use Rattle.sb_actor.specs.Ranges.{IsSoundThreadStage}
-use Rattle.sb_actor.specs.ThreadStages.{ThreadStage, ThreadAt, Try, Fill, Send, Wait, Fetch, Free, Abandon, Stray, Over}
-use Rattle.sb_actor.specs.ThreadTable.{ThreadNext, after_round, ends, goes_on, has_clean, is_clean_at, stray_row, thread_plan, thread_row}
-use Rattle.sb_actor.specs.Observations.{Observation}
-use Rattle.sb_block.specs.Replies.{read_reply}
-use Rattle.sb_book.specs.declared.entries.Entry.{Entry}
-use Rattle.sb_statements.specs.Soundness.{channels_of, is_statement, has_word}
+use Rattle.std.proofs.Common.{◌≡◌, inl, inr, ◌∙◌, refl, subst, sym, ℕ, ◌+◌, ◌<◌, ◌≤◌, min, true, ◌&&◌, ◌==◌, if◌then◌else◌, List, [], ◌∷◌, ◌++◌, length, length-drop, take, drop, get_or-drop, Option, Some, IfSome, lit<, lit≤, arith}
+use Rattle.std.specs.Prelude.{is_none}
+use Rattle.sb_actor.specs.ThreadStages.{Try, Fill, Fetch}
 use Rattle.sb_statements.specs.declared.results.CallResult.TheVariants as call
-use Rattle.sb_statements.specs.declared.results.CallResult.{CallResult}
-use Rattle.sb_statements.specs.declared.results.StmtResult.{StmtResult}
 use Rattle.sb_statements.specs.declared.results.StmtResult.TheVariants as result
-use Rattle.sb_statements.specs.declared.scripts.Script.{Script}
-use Rattle.sb_statements.specs.declared.statements.Statement.{Statement}
 use Rattle.sb_statements.specs.declared.statements.Statement.TheVariants as statement
-use Rattle.sb_statements.specs.declared.statements.Word.{Word}
-use Rattle.sb_core.specs.Kept.{is_calling, is_over}
-use Rattle.sb_core.specs.Origins.{HasBlockSource, HasSource, HasStateSource, IsSourcedReply, Shows, ShowsCall, StoresThere}
-use Rattle.sb_core.proofs.Sourcing.{WritesSource, block_source, state_source}
-use Rattle.sb_core.proofs.WorkerSources.{each_more}
-use Rattle.sb_core.proofs.ThreadRows.{either_stage, either_way}
+use Rattle.sb_core.proofs.Sourcing.{WritesSource, block_source, state_source, each_more}
+use Rattle.sb_core.proofs.Existence.{word_parts}
+use Rattle.std.proofs.lemmas.List.{length-take-le, get_or-take}
+use Rattle.sb_core.proofs.Names.{Abandon, abandoned, at, block_of, CallResult, ends, Entry, first_stage, Free, goes_on, has_word, HasBlockSource, HasSource, HasStateSource, is_call, is_calling, is_over, is_statement, IsSoundThreadStage, IsSourcedReply, mark_at, Observation, read_reply, Script, Send, Shows, ShowsCall, slice_index, Statement, statement_at, StmtResult, StoresThere, Stray, stray_row, thread_after, thread_plan, ThreadAt, ThreadNext, ThreadStage, value_in, Wait, Word}
+use Rattle.sb_core.proofs.ThreadRows.{CallRows, DirectRows, walk}
 
 -- what a thread has fetched has sources
 abbrev pub IsTracedThread : Script → List Entry → ℕ → ThreadStage → Type 0
@@ -58,24 +42,10 @@ traced_first script es t _ = tt
 
 -- the extended words of a reply that is read
 ext_length : (words : List ℕ) (n : ℕ) → length words ≡ 12 → length (take (min n 7) (drop 5 words)) ≡ min n 7
-ext_length words n e = length_take (min n 7) (drop 5 words) (seven words n e)
-  where
-    length_take : (m : ℕ) (l : List ℕ) → m ≤ length l → length (take m l) ≡ m
-    length_take zero l h = refl
-    length_take (suc m) [] h = absurd (omega (arith, h))
-    length_take (suc m) (x ∷ l) h = ap suc (length_take m l (omega (arith, h)))
+ext_length words n e = length-take-le (min n 7) (drop 5 words) (let d = length-drop 5 words in omega (arith, d, e))
 
-    seven : (words : List ℕ) (n : ℕ) → length words ≡ 12 → min n 7 ≤ length (drop 5 words)
-    seven words n e = let d = length-drop 5 words in omega (arith, d, e)
-
-ext_at : (words : List ℕ) (n i : ℕ) → i < length (take n (drop 5 words)) → slice_index (take n (drop 5 words)) i ≡ slice_index words (5 + i)
-ext_at words n i l = in_take n (drop 5 words) i l ∙ get_or-drop 5 words i 0
-  where
-    in_take : (n : ℕ) (xs : List ℕ) (i : ℕ) → i < length (take n xs) → slice_index (take n xs) i ≡ slice_index xs i
-    in_take zero xs i l = absurd (omega (arith, l))
-    in_take (suc n) [] i l = absurd (omega (arith, l))
-    in_take (suc n) (x ∷ xs) zero l = refl
-    in_take (suc n) (x ∷ xs) (suc i) l = in_take n xs i (omega (arith, l))
+ext_at : (words : List ℕ) (n i : ℕ) → i < n → slice_index (take n (drop 5 words)) i ≡ slice_index words (5 + i)
+ext_at words n i l = get_or-take n (drop 5 words) i 0 l ∙ get_or-drop 5 words i 0
 
 -- a reply that is read from twelve words that have sources
 pub sourced_reply : (script : Script) (es : List Entry) (t c : ℕ) (words : List ℕ) → length words ≡ 12 → ((i : ℕ) → i < length words → HasBlockSource script es t c (3 + i) (slice_index words i))
@@ -88,8 +58,9 @@ sourced_reply script es t c words n h = record {
   many = (slice_index words 4, h 4 (omega (arith, n)), ext_length words (slice_index words 4) n);
   words = λ i l.
       let size = ext_length words (slice_index words 4) n in
-      let low : 5 + i < length words = omega (arith, n, size, l) in
-      subst (λ z. HasBlockSource script es t c (8 + i) z) (sym (ext_at words (min (slice_index words 4) 7) i l))
+      let few : i < min (slice_index words 4) 7 = omega (arith, size, l) in
+      let low : 5 + i < length words = omega (arith, n, few) in
+      subst (λ z. HasBlockSource script es t c (8 + i) z) (sym (ext_at words (min (slice_index words 4) 7) i few))
       (subst (λ z. HasBlockSource script es t c z (slice_index words (5 + i))) (eight i) (h (5 + i) low));
 }
   where
@@ -99,6 +70,10 @@ sourced_reply script es t c words n h = record {
 module _ (script : Script) (es : List Entry) (x : ThreadAt) where
   abbrev here : Option Statement
   here = statement_at script x.target x.thread x.place
+
+  -- what has been traced stays so, by what the step found
+  abbrev Step : ThreadStage → ℕ → ThreadNext → Type 0
+  Step stage n next = IsTracedThread script es x.target stage → Finds script es x stage n → Traces script es x next
 
   over : (r : StmtResult) → ShowsStatement script es x r → Traces script es x (ends script x r)
   over r s = record { stage = traced_first script es x.target (statement_at script x.target x.thread (x.place + 1)); shown = s }
@@ -114,67 +89,48 @@ module _ (script : Script) (es : List Entry) (x : ThreadAt) where
     ended_call : (r : CallResult) → ShowsCall script es x.target r → Traces script es x (ends script x (result.Call r))
     ended_call r s = over (result.Call r) (call_shows here refl calls r s)
 
-    on_round : (rounds : ℕ) (all_abandoned : Bool) → Traces script es x (after_round script x rounds all_abandoned)
-    on_round rounds all_abandoned =
-        either_way (Traces script es x) all_abandoned (ends script x (result.Call call.NoChannel))
-        (if has_clean x.clean then goes_on x (Try 0 rounds true) else (if rounds + 1 == x.patience then ends script x (result.Call call.NoChannel) else goes_on x (Try 0 (rounds + 1) true)))
-        (ended_call call.NoChannel tt)
-        (either_way (Traces script es x) (has_clean x.clean) (goes_on x (Try 0 rounds true))
-        (if rounds + 1 == x.patience then ends script x (result.Call call.NoChannel) else goes_on x (Try 0 (rounds + 1) true)) (on (Try 0 rounds true) tt)
-        (either_way (Traces script es x) (rounds + 1 == x.patience) (ends script x (result.Call call.NoChannel)) (goes_on x (Try 0 (rounds + 1) true)) (ended_call call.NoChannel tt)
-        (on (Try 0 (rounds + 1) true) tt)))
+    reply_shown : (c : ℕ) (words : List ℕ) → length words ≡ 12 → IsTracedThread script es x.target (Free c words) → IsSourcedReply script es x.target c (read_reply words)
+    reply_shown c words n h = sourced_reply script es x.target c words n h
 
-    reply_shown : (c : ℕ) (words : List ℕ) → length words ≡ 12 → IsTracedThread script es x.target (Free c words) → (b : Bool)
-        → ShowsCall script es x.target (if b then call.Reply c (read_reply words) else call.Foreign c (slice_index words 0))
-    reply_shown c words n h true = sourced_reply script es x.target c words n h
-    reply_shown c words n h false = h 0 (omega (arith, n))
+    more_fetched : (c n : ℕ) (words : List ℕ) → IsTracedThread script es x.target (Fetch c words) → HasBlockSource script es x.target c (3 + length words) n
+        → IsTracedThread script es x.target (Fetch c (words ++ n ∷ []))
+    more_fetched c n words w l = each_more (λ i z. HasBlockSource script es x.target c (3 + i) z) words n w l
 
-    call_traces : (stage : ThreadStage) → IsSoundThreadStage (length x.clean) x.patience x.block stage → is_calling stage ≡ true → IsTracedThread script es x.target stage → (seen : Observation)
-        → Finds script es x stage (value_in seen) → Traces script es x ((thread_row script x stage).next seen)
-    call_traces (Try c rounds all_abandoned) s h w seen l =
-        let found = value_in seen in
-        either_way (Traces script es x) (found == free) (goes_on x (Fill c 0))
-        (if c + 1 == length x.clean then after_round script x rounds (all_abandoned && found == abandoned) else goes_on x (Try (c + 1) rounds (all_abandoned && found == abandoned))) (on (Fill c 0) tt)
-        (either_way (Traces script es x) (c + 1 == length x.clean) (after_round script x rounds (all_abandoned && found == abandoned)) (goes_on x (Try (c + 1) rounds (all_abandoned && found == abandoned)))
-        (on_round rounds (all_abandoned && found == abandoned)) (on (Try (c + 1) rounds (all_abandoned && found == abandoned)) tt))
-    call_traces (Fill c i) s h w seen l = either_stage (Traces script es x) x (i + 1 == length x.block) (Send c) (Fill c (i + 1)) (on (Send c) tt) (on (Fill c (i + 1)) tt)
-    call_traces (Send c) s h w seen l =
-        either_way (Traces script es x) (value_in seen == busy) (goes_on x (Wait c 0)) (ends script x (result.Call (call.SendLost c (value_in seen)))) (on (Wait c 0) tt)
-        (ended_call (call.SendLost c (value_in seen)) l)
-    call_traces (Wait c loads) s h w seen l =
-        either_stage (Traces script es x) x (value_in seen == acknowledged) (Fetch c [])
-        (if is_clean_at x c then Wait c loads else (if loads + 1 == x.patience then Abandon c else Wait c (loads + 1))) (on (Fetch c []) (λ i q. absurd (omega (arith, q))))
-        (either_stage (Traces script es x) x (is_clean_at x c) (Wait c loads) (if loads + 1 == x.patience then Abandon c else Wait c (loads + 1)) (on (Wait c loads) tt)
-        (either_stage (Traces script es x) x (loads + 1 == x.patience) (Abandon c) (Wait c (loads + 1)) (on (Abandon c) tt) (on (Wait c (loads + 1)) tt)))
-    call_traces (Fetch c words) s h w seen l =
-        let more = each_more (λ i z. HasBlockSource script es x.target c (3 + i) z) words (value_in seen) w l in
-        either_stage (Traces script es x) x (length (words ++ value_in seen ∷ []) == 12) (Free c (words ++ value_in seen ∷ [])) (Fetch c (words ++ value_in seen ∷ []))
-        (on (Free c (words ++ value_in seen ∷ [])) more) (on (Fetch c (words ++ value_in seen ∷ [])) more)
-    call_traces (Free c words) s h w seen l =
-        ended_call (if slice_index words 0 == mark_at x.thread x.place then call.Reply c (read_reply words) else call.Foreign c (slice_index words 0))
-        (reply_shown c words s.1 w (slice_index words 0 == mark_at x.thread x.place))
-    call_traces (Abandon c) s h w seen l = ended_call (call.TimedOut c) tt
-    call_traces _ s h w seen l = absurd (cc)
+    call_traces : CallRows script x Step
+    call_traces = record {
+      took = λ c r n a w b h l. on (Fill c 0) tt;
+      tried = λ c r n a w p b h l. on (Try (c + 1) r (a && n == abandoned)) tt;
+      round = λ c r m n a w p b h l. on (Try 0 m true) tt;
+      none = λ c r n a e f h l. ended_call call.NoChannel tt;
+      filled = λ c i n w m h l. on (Fill c (i + 1)) tt;
+      whole = λ c i n w h l. on (Send c) tt;
+      sent = λ c n w h l. on (Wait c 0) tt;
+      lost = λ c n w e h l. ended_call (call.SendLost c n) l;
+      replied = λ c m n w h l. on (Fetch c []) (λ i q. absurd (omega (arith, q)));
+      waits_on = λ c m k n w p h l. on (Wait c k) tt;
+      tired = λ c m n w h l. on (Abandon c) tt;
+      fetched = λ c n ws w m h l. on (Fetch c (ws ++ n ∷ [])) (more_fetched c n ws h l);
+      read = λ c n ws w m h l. on (Free c (ws ++ n ∷ [])) (more_fetched c n ws h l);
+      own = λ c n ws w e m h l. ended_call (call.Reply c (read_reply ws)) (reply_shown c ws e h);
+      foreign = λ c n ws w e m h l. ended_call (call.Foreign c (slice_index ws 0)) (h 0 (omega (arith, e)));
+      given_up = λ c n w h l. ended_call (call.TimedOut c) tt;
+    }
 
-  stray_traces : (loads most : ℕ) (o : Option Statement) → here ≡ o → is_call o ≡ false → is_none o ≡ false → (seen : Observation) → FindsAt script es o (value_in seen)
-      → Traces script es x ((stray_row script x loads most o).next seen)
-  stray_traces loads most (Some (statement.Store t word value)) e h n seen l = over result.Stored (statement.Store t word value, e, tt)
-  stray_traces loads most (Some (statement.Exchange t word from to)) e h n seen l = over (result.Found (value_in seen)) (statement.Exchange t word from to, e, l)
-  stray_traces loads most (Some (statement.Load t word)) e h n seen l = over (result.Found (value_in seen)) (statement.Load t word, e, l)
-  stray_traces loads most (Some (statement.Wait t word value limit)) e h n seen l =
-      either_way (Traces script es x) (value_in seen == value) (ends script x (result.Met (loads + 1)))
-      (if loads + 1 == most then ends script x (result.Unmet most) else goes_on x (Stray (loads + 1) most))
-      (over (result.Met (loads + 1)) (statement.Wait t word value limit, e, tt))
-      (either_way (Traces script es x) (loads + 1 == most) (ends script x (result.Unmet most)) (goes_on x (Stray (loads + 1) most)) (over (result.Unmet most) (statement.Wait t word value limit, e, tt))
-      (on (Stray (loads + 1) most) tt))
-  stray_traces loads most _ e h n seen l = absurd (cc)
+  direct_traces : DirectRows script x Step
+  direct_traces = record {
+    store_ends = λ loads most n t w v e h l. over result.Stored (statement.Store t w v, e, tt);
+    exchange_ends = λ loads most n t w from to e h l. over (result.Found n) (statement.Exchange t w from to, e, subst (λ o. FindsAt script es o n) e l);
+    load_ends = λ loads most n t w e h l. over (result.Found n) (statement.Load t w, e, subst (λ o. FindsAt script es o n) e l);
+    met = λ loads most n t w v k e low h l. over (result.Met (loads + 1)) (statement.Wait t w v k, e, tt);
+    unmet = λ loads most n t w v k e last h l. over (result.Unmet most) (statement.Wait t w v k, e, tt);
+    again = λ loads most n t w v k e low h l. on (Stray (loads + 1) most) tt;
+  }
 
-  -- each row
-  pub row_traces : (stage : ThreadStage) → x.stage ≡ stage → IsSoundThreadStage (length x.clean) x.patience x.block stage → is_calling stage ≡ is_call here → is_over stage ≡ is_none here
-      → IsTracedThread script es x.target stage → (seen : Observation) → Finds script es x stage (value_in seen) → Traces script es x ((thread_row script x stage).next seen)
-  row_traces (Stray loads most) at s calls none w seen l = stray_traces loads most here refl (sym calls) (sym none) seen l
-  row_traces Over at s calls none w seen l = record { stage = subst (λ z. IsTracedThread script es x.target z) (sym at) tt; shown = tt }
-  row_traces stage at s calls none w seen l = call_traces (sym calls) stage s refl w seen l
+  -- every step
+  pub step_traces : IsSoundThreadStage (length x.clean) x.patience x.block x.stage → is_calling x.stage ≡ is_call here → is_over x.stage ≡ is_none here
+      → IsTracedThread script es x.target x.stage → (seen : Observation) → Finds script es x x.stage (value_in seen) → Traces script es x (thread_after script x seen)
+  step_traces s calls none w seen l =
+      walk script x Step call_traces direct_traces (λ n h f. record { stage = w; shown = tt }) x.stage s calls none seen w l
 
   -- what the step writes
   of_block : (o : Option Statement) → here ≡ o → is_call o ≡ true → (i : ℕ) → i < length (block_of (mark_at x.thread x.place) o) → (c : ℕ)
@@ -182,10 +138,8 @@ module _ (script : Script) (es : List Entry) (x : ThreadAt) where
   of_block (Some (statement.Call tag args)) e h i l c = inr (inl (x.thread, x.place, tag, args, e, l, refl))
   of_block _ e h i l c = absurd (cc)
 
-  low_word : (t : ℕ) (word : Word) → has_word script.targets t word ≡ true → word.at < 65
-  low_word t word h =
-      let second = (and_parts (nat_lt word.channel (channels_of (slice_get script.targets t))) (nat_le word.at 64) h).1 in
-      grind (arith, nat_tests, second)
+  low_place : (t : ℕ) (word : Word) → has_word script.targets t word ≡ true → word.at < 65
+  low_place t word h = let low = (word_parts script t word h).1 in omega (arith, low)
 
   by_hand_source : (u : ℕ) (word : Word) (value : ℕ) (s : Statement) → here ≡ Some s
       → ((c j : ℕ) → word.channel ≡ c → word.at ≡ j → StoresThere u c j value s) → HasSource script es u word.channel word.at value
@@ -196,9 +150,9 @@ module _ (script : Script) (es : List Entry) (x : ThreadAt) where
 
   stray_writes : (y : ThreadAt) (loads most : ℕ) (o : Option Statement) → here ≡ o → IfSome o (λ s. is_statement script.targets s ≡ true) → WritesSource script es (stray_row script y loads most o).step
   stray_writes y loads most (Some (statement.Store t word value)) e h =
-      (low_word t word h, by_hand_source t word value (statement.Store t word value) e (λ c j f g. (refl, f, g, refl)))
+      (low_place t word h, by_hand_source t word value (statement.Store t word value) e (λ c j f g. (refl, f, g, refl)))
   stray_writes y loads most (Some (statement.Exchange t word from to)) e h =
-      (low_word t word h, by_hand_source t word to (statement.Exchange t word from to) e (λ c j f g. (refl, f, g, refl)))
+      (low_place t word h, by_hand_source t word to (statement.Exchange t word from to) e (λ c j f g. (refl, f, g, refl)))
   stray_writes y loads most _ e h = tt
 
   pub row_writes : (stage : ThreadStage) → IsSoundThreadStage (length x.clean) x.patience x.block stage → is_calling stage ≡ is_call here → length x.block ≤ 64

@@ -1,24 +1,12 @@
 -- A step of a thread that makes a channel ready is counted.
 use Rattle.std.proofs.Common.{◌≡◌, refl, ap, ℕ, ◌+◌, ◌≤◌, Bool, true, false, ◌&&◌, ◌==◌, if◌then◌else◌, List, [], ◌∷◌, ◌++◌, length, Option, None, Some, lit≤, arith}
-use Rattle.std.proofs.lemmas.Bool.Decides.{nat_tests}
-use Rattle.std.specs.Option.{option_to_list}
-use Rattle.sb_actor.specs.Acts.{value_in, busy, acknowledged}
-use Rattle.sb_actor.specs.Places.{mark_at, statement_at}
-use Rattle.sb_actor.specs.ThreadStages.{ThreadStage, ThreadAt, Try, Fill, Send, Wait, Fetch, Free, Abandon, Stray, Over}
-use Rattle.sb_actor.specs.ThreadTable.{ThreadNext, ends, goes_on, is_clean_at, stray_row, thread_plan, thread_row}
-use Rattle.sb_actor.specs.declared.acts.Act.{Act}
+use Rattle.sb_core.proofs.Names.{Abandon, abandoned, Act, ends, ends_on, Free, goes_on, has_sent, is_state, IsSoundThreadStage, nat_tests, Observation, one_if, option_to_list, Over, read_reply, Script, Send, slice_index, Statement, statement_at, StmtResult, Stray, stray_row, tally_from, tally_of, thread_plan, thread_row, ThreadAt, ThreadNext, ThreadStage, value_in, Wait}
+use Rattle.sb_actor.specs.ThreadStages.{Try, Fill, Fetch}
 use Rattle.sb_actor.specs.declared.acts.Act.TheVariants as act
-use Rattle.sb_actor.specs.Observations.{Observation}
-use Rattle.sb_block.specs.Replies.{read_reply}
 use Rattle.sb_statements.specs.declared.results.CallResult.TheVariants as call
-use Rattle.sb_statements.specs.declared.results.StmtResult.{StmtResult}
 use Rattle.sb_statements.specs.declared.results.StmtResult.TheVariants as result
-use Rattle.sb_statements.specs.declared.scripts.Script.{Script}
-use Rattle.sb_statements.specs.declared.statements.Statement.{Statement}
 use Rattle.sb_statements.specs.declared.statements.Statement.TheVariants as statement
-use Rattle.sb_core.specs.Kept.{is_calling}
-use Rattle.sb_core.specs.Tallies.{has_sent, ends_on, is_state, one_if, tally_from, tally_of}
-use Rattle.sb_core.proofs.ThreadRows.{either_stage, pick}
+use Rattle.sb_core.proofs.ThreadRows.{CallRows, call_row}
 
 -- a step that found n made the channel ready
 abbrev pub readies : ℕ → ℕ → Act → ℕ → Bool
@@ -94,44 +82,41 @@ module _ (script : Script) (t c : ℕ) (x : ThreadAt) where
       let same : one_if (mine && has_sent c stage) ≡ one_if (mine && ends_on c r) = ap (λ b. one_if (mine && b)) e in
       omega (arith, same, f)
 
-  reply_ends : (d : ℕ) (b : Bool) (words : List ℕ) → (d == c) ≡ ends_on c (result.Call (if b then call.Reply d (read_reply words) else call.Foreign d (read_reply words).mark))
-  reply_ends d true words = refl
-  reply_ends d false words = refl
+  -- what a step counts
+  abbrev Step : ThreadStage → ℕ → ThreadNext → Type 0
+  Step stage n next = IsCounted script t c x stage (one_if (readies t c (thread_plan script (record x { stage = stage })) n)) next
 
-  -- each row of a call
-  call_counted : (stage : ThreadStage) → is_calling stage ≡ true → (seen : Observation)
-      → IsCounted script t c x stage (one_if (readies t c (thread_plan script (record x { stage = stage })) (value_in seen))) ((thread_row script x stage).next seen)
-  call_counted (Try d rounds all_abandoned) h seen =
-      any (Try d rounds all_abandoned) _ ((thread_row script x (Try d rounds all_abandoned)).next seen) refl (state_none mine (d == c) (value_in seen == 1 && false) (and_none (value_in seen == 1)))
-  call_counted (Fill d i) h seen =
-      any (Fill d i) _ ((thread_row script x (Fill d i)).next seen) refl (block_none mine (d == c) (1 + i == 0) _ (later_word i))
-  call_counted (Send d) h seen =
-      let found = value_in seen in
-      pick (IsCounted script t c x (Send d) (one_if (readies t c (thread_plan script (record x { stage = Send d })) (value_in seen)))) (found == busy) (goes_on x (Wait d 0))
-      (ends script x (result.Call (call.SendLost d found)))
-      (λ e.
-      let low = send_rise mine (d == c) (found == 2) in
-      let zero_sent = none_sent mine in
-      omega (arith, low, zero_sent))
-      (λ e.
-      let zero_sent = none_sent mine in
-      let zero_rise : one_if ((mine && (d == c && true)) && (found == 2 && true)) ≡ 0 = state_none mine (d == c) (found == 2 && true) (ap (λ b. b && true) e) in
-      omega (arith, zero_sent, zero_rise))
-  call_counted (Wait d loads) h seen =
-      either_stage (IsCounted script t c x (Wait d loads) 0) x (value_in seen == acknowledged) (Fetch d [])
-      (if is_clean_at x d then Wait d loads else (if loads + 1 == x.patience then Abandon d else Wait d (loads + 1))) (stays_sent (Wait d loads) (Fetch d []) 0 refl refl)
-      (either_stage (IsCounted script t c x (Wait d loads) 0) x (is_clean_at x d) (Wait d loads) (if loads + 1 == x.patience then Abandon d else Wait d (loads + 1))
-      (stays_sent (Wait d loads) (Wait d loads) 0 refl refl)
-      (either_stage (IsCounted script t c x (Wait d loads) 0) x (loads + 1 == x.patience) (Abandon d) (Wait d (loads + 1)) (stays_sent (Wait d loads) (Abandon d) 0 refl refl)
-      (stays_sent (Wait d loads) (Wait d (loads + 1)) 0 refl refl)))
-  call_counted (Fetch d words) h seen =
-      either_stage (IsCounted script t c x (Fetch d words) 0) x (length (words ++ value_in seen ∷ []) == 12) (Free d (words ++ value_in seen ∷ [])) (Fetch d (words ++ value_in seen ∷ []))
-      (stays_sent (Fetch d words) (Free d (words ++ value_in seen ∷ [])) 0 refl refl) (stays_sent (Fetch d words) (Fetch d (words ++ value_in seen ∷ [])) 0 refl refl)
-  call_counted (Free d words) h seen =
-      ends_sent (Free d words) _ (result.Call (if (read_reply words).mark == mark_at x.thread x.place then call.Reply d (read_reply words) else call.Foreign d (read_reply words).mark))
-      (reply_ends d ((read_reply words).mark == mark_at x.thread x.place) words) (state_none mine (d == c) false refl)
-  call_counted (Abandon d) h seen = ends_sent (Abandon d) _ (result.Call (call.TimedOut d)) refl (state_none mine (d == c) false refl)
-  call_counted _ h seen = absurd (cc)
+  tries : (d rounds n : ℕ) (all : Bool) (next : ThreadNext) → Step (Try d rounds all) n next
+  tries d rounds n all next = any (Try d rounds all) _ next refl (state_none mine (d == c) (n == 1 && false) (and_none (n == 1)))
+
+  fills : (d i n : ℕ) (next : ThreadNext) → Step (Fill d i) n next
+  fills d i n next = any (Fill d i) _ next refl (block_none mine (d == c) (1 + i == 0) _ (later_word i))
+
+  call_counted : CallRows script x Step
+  call_counted = record {
+    took = λ d r n a w b. tries d r n a (goes_on x (Fill d 0));
+    tried = λ d r n a w p b. tries d r n a (goes_on x (Try (d + 1) r (a && n == abandoned)));
+    round = λ d r m n a w p b. tries d r n a (goes_on x (Try 0 m true));
+    none = λ d r n a e h. tries d r n a (ends script x (result.Call call.NoChannel));
+    filled = λ d i n w l. fills d i n (goes_on x (Fill d (i + 1)));
+    whole = λ d i n w. fills d i n (goes_on x (Send d));
+    sent = λ d n w.
+        let low = send_rise mine (d == c) (n == 2) in
+        let zero_sent = none_sent mine in
+        omega (arith, low, zero_sent);
+    lost = λ d n w e.
+        let zero_sent = none_sent mine in
+        let zero_rise : one_if ((mine && (d == c && true)) && (n == 2 && true)) ≡ 0 = state_none mine (d == c) (n == 2 && true) (ap (λ b. b && true) e) in
+        omega (arith, zero_sent, zero_rise);
+    replied = λ d l n w. stays_sent (Wait d l) (Fetch d []) 0 refl refl;
+    waits_on = λ d l m n w p. stays_sent (Wait d l) (Wait d m) 0 refl refl;
+    tired = λ d l n w. stays_sent (Wait d l) (Abandon d) 0 refl refl;
+    fetched = λ d n ws w l. stays_sent (Fetch d ws) (Fetch d (ws ++ n ∷ [])) 0 refl refl;
+    read = λ d n ws w e. stays_sent (Fetch d ws) (Free d (ws ++ n ∷ [])) 0 refl refl;
+    own = λ d n ws w e m. ends_sent (Free d ws) _ (result.Call (call.Reply d (read_reply ws))) refl (state_none mine (d == c) false refl);
+    foreign = λ d n ws w e m. ends_sent (Free d ws) _ (result.Call (call.Foreign d (slice_index ws 0))) refl (state_none mine (d == c) false refl);
+    given_up = λ d n w. ends_sent (Abandon d) _ (result.Call (call.TimedOut d)) refl (state_none mine (d == c) false refl);
+  }
 
   -- a statement that names a word
   stray_counted : (y : ThreadAt) (loads most : ℕ) (o : Option Statement) → here ≡ o → (seen : Observation) → has_sent c y.stage ≡ false
@@ -141,11 +126,10 @@ module _ (script : Script) (t c : ℕ) (x : ThreadAt) where
   stray_counted y loads most _ e seen f = let zero_sent = none_sent mine in omega (arith, zero_sent)
 
   -- each row
-  pub row_counted : (stage : ThreadStage) → (seen : Observation)
-      → IsCounted script t c x stage (one_if (readies t c (thread_plan script (record x { stage = stage })) (value_in seen))) ((thread_row script x stage).next seen)
-  row_counted (Stray loads most) seen = stray_counted (record x { stage = Stray loads most }) loads most here refl seen refl
-  row_counted Over seen = let zero_sent = none_sent mine in omega (arith, zero_sent)
-  row_counted stage seen = call_counted stage refl seen
+  pub row_counted : (stage : ThreadStage) → IsSoundThreadStage (length x.clean) x.patience x.block stage → (seen : Observation) → Step stage (value_in seen) ((thread_row script x stage).next seen)
+  row_counted (Stray loads most) s seen = stray_counted (record x { stage = Stray loads most }) loads most here refl seen refl
+  row_counted Over s seen = let zero_sent = none_sent mine in omega (arith, zero_sent)
+  row_counted stage s seen = call_row script x Step call_counted stage s refl seen
 
 -- the tally of results with one more
 pub tally_more : (script : Script) (t c u k i j : ℕ) (results : List StmtResult) (o : Option StmtResult) → j ≡ i + length results

@@ -1,64 +1,25 @@
 -- In every world of a script each word, each copy and each value that a result shows has a source.
-use Rattle.std.proofs.Common.{◌≡◌, ◌⊎◌, inl, inr, ⊎_elim, ◌∙◌, refl, ap, subst, sym, ℕ, ◌+◌, ◌*◌, ◌%◌, ◌<◌, ◌≤◌, Bool, true, false, ltb, ◌==◌, if◌then◌else◌, List, [], ◌∷◌, ◌++◌, length, length-set, set, get_or, get_or-set_same, get_or-set_other, Option, None, Some, IfSome, slice_get, lit<, lit≤, arith}
-use Rattle.std.proofs.lemmas.Bool.{and_parts}
-use Rattle.std.proofs.lemmas.Bool.Decides.{nat_tests}
-use Rattle.std.specs.Option.{option_to_list}
-use Rattle.std.specs.Prelude.{nat_le, nat_lt, slice_index}
-use native.Mathlib.Decide.{ℕ_discrete}
-use Rattle.sb_actor.specs.Acts.{value_in}
-use Rattle.sb_actor.specs.Moves.{at}
-use Rattle.sb_actor.specs.Places.{statement_at}
-use Rattle.sb_actor.specs.Ranges.{IsSoundThreadStage}
-use Rattle.sb_actor.specs.Laws.{opening_at}
-use Rattle.sb_actor.specs.ThreadStages.{ThreadStage, ThreadAt}
+use Rattle.std.proofs.Common.{◌≡◌, ◌⊎◌, inl, inr, ◌∙◌, refl, ap, subst, sym, ℕ, ◌+◌, ◌*◌, ◌%◌, ◌<◌, ◌≤◌, true, false, ◌==◌, if◌then◌else◌, List, [], ◌∷◌, ◌++◌, length, length-set, set, get_or, get_or-set_other, Option, None, Some, IfSome, slice_get, lit<, lit≤, arith}
+use Rattle.sb_core.proofs.Names.{Answer, AreSourcedCopies, AreSourcedWords, at, CallResult, channels_of, Copy, drained, End, Entry, entry_of, first_unfinished, first_worker, first_workers, free_channels, Give, HasSource, is_statement, IsActThere, IsOfScript, IsReady, IsSoundThreadStage, IsSourced, nat_tests, no_run, no_worker, NoBlockIsInvented, on_word, on_worker, opening_at, option_to_list, played, Policy, report_of, results_of, run_at, RunAt, Script, SharedAt, Shows, ShowsCall, slice_index, SoundStatements, SoundTargets, start_world, Statement, statement_at, step, StmtResult, stray_row, Take, target_decision, Thread, thread_after, thread_plan, ThreadAt, threads_at, ThreadStage, value_in, worker_at, worker_plan, worker_step, WorkerAt, WorkerStage, WorldAt, WorldsAreSourced, ℕ_discrete}
 use Rattle.sb_actor.specs.ThreadStages as thread
-use Rattle.sb_actor.specs.ThreadTable.{stray_row, thread_after, thread_plan}
-use Rattle.sb_actor.specs.WorkerStages.{WorkerStage, WorkerAt, End, Copy, Take, Answer, Give, Reply}
-use Rattle.sb_actor.specs.WorkerTable.{worker_after, worker_plan}
-use Rattle.sb_book.specs.Histories.{entry_of, target_decision}
-use Rattle.sb_book.specs.Readiness.{IsReady}
-use Rattle.sb_book.specs.declared.entries.Entry.{Entry}
-use Rattle.sb_rule.specs.declared.policies.Policy.{Policy}
-use Rattle.sb_statements.specs.Actors.{is_there}
-use Rattle.sb_statements.specs.Soundness.{SoundStatements, SoundTargets, channels_of, is_statement, has_word}
-use Rattle.sb_statements.specs.declared.results.CallResult.{CallResult}
+use Rattle.sb_actor.specs.WorkerStages.{Reply}
 use Rattle.sb_statements.specs.declared.results.CallResult.TheVariants as call
-use Rattle.sb_statements.specs.declared.results.StmtResult.{StmtResult}
 use Rattle.sb_statements.specs.declared.results.StmtResult.TheVariants as result
-use Rattle.sb_statements.specs.declared.schedules.Actor.{Actor}
-use Rattle.sb_statements.specs.declared.schedules.Actor.TheVariants.{Thread, Worker}
-use Rattle.sb_statements.specs.declared.scripts.Script.{Script}
-use Rattle.sb_statements.specs.declared.statements.Statement.{Statement}
 use Rattle.sb_statements.specs.declared.statements.Statement.TheVariants as statement
-use Rattle.sb_statements.specs.declared.statements.Word.{Word}
-use Rattle.sb_core.specs.Drains.{drained}
-use Rattle.sb_core.specs.Kept.{IsRunning, IsWorld}
-use Rattle.sb_core.specs.Origins.{WorldsAreSourced, AreSourcedCopies, AreSourcedWords, HasSource, IsSourced, NoBlockIsInvented, Shows, ShowsCall}
-use Rattle.sb_core.specs.Reports.{report_of, results_of}
-use Rattle.sb_core.specs.Results.{result_at}
-use Rattle.sb_core.specs.Runs.{ended, played}
-use Rattle.sb_core.specs.Shared.{Effect, IsActThere, on_word, on_worker}
-use Rattle.sb_core.specs.Threads.{RunAt, first_unfinished, no_run}
-use Rattle.sb_core.specs.Words.{free_channels}
-use Rattle.sb_core.specs.Worlds.{WorldAt, first_worker, first_workers, no_worker, run_at, start_world, step, threads_at, worker_at, worker_step}
+use Rattle.sb_core.specs.Runs.{ended}
 use Rattle.sb_core.proofs.Bounds.{ready_sound}
-use Rattle.sb_core.proofs.Draining.{drained_threads}
-use Rattle.sb_core.proofs.Keeping.{worker_keeps}
+use Rattle.sb_core.proofs.Beginning.{drained_threads}
 use Rattle.sb_core.proofs.Opening.{opened}
-use Rattle.sb_core.proofs.Reaching.{behind}
-use Rattle.sb_core.specs.OfScripts.{IsOfScript}
-use Rattle.sb_core.proofs.Belonging.{leads_of, of_end, of_run}
-use Rattle.sb_core.proofs.RunLaws.{no_run_past, results_at}
-use Rattle.sb_core.proofs.Running.{step_keeps, thread_is_there, worker_is_there, worker_runs}
+use Rattle.sb_core.proofs.Belonging.{leads_of, of_end, of_run, Keeps, holds_on}
 use Rattle.sb_core.proofs.Sets.{each_set}
-use Rattle.sb_core.proofs.Sourcing.{in_front, more_block, more_copy, more_reply, more_source, sourced_words}
-use Rattle.sb_core.proofs.Stepping.{kept_along}
-use Rattle.sb_core.proofs.Starting.{each_is, free_length, start_run, starts_running, starts_world, words_at}
-use Rattle.sb_core.proofs.There.{as_many, its_own, listed, sound_at, thread_there}
+use Rattle.sb_core.proofs.Sourcing.{in_front, more_block, more_copy, more_reply, more_source, sourced_words, IsTracedWorker, own_copies, own_traced, own_words}
+use Rattle.sb_core.proofs.Starting.{each_is, free_length, start_run, words_at, so_many}
+use Rattle.sb_core.proofs.Existence.{listed, sound_at, thread_there, word_parts, of_own}
 use Rattle.sb_core.proofs.ThreadKeeping.{thread_book}
-use Rattle.sb_core.proofs.ThreadSources.{Finds, FindsAt, IsTracedThread, ShowsStatement, Traces, row_traces, row_writes, traced_first}
-use Rattle.sb_core.proofs.WorkerSources.{IsTracedWorker, own_copies, own_traced, own_words}
-use Rattle.sb_core.proofs.Numbers.{none_of, none_some, some_same}
+use Rattle.sb_core.proofs.ThreadSources.{Finds, FindsAt, IsTracedThread, Traces, row_writes, traced_first, step_traces}
+use Rattle.sb_core.proofs.Numbers.{none_of}
+use Rattle.sb_core.proofs.Reaching.{EachResult, one_more}
+use Rattle.sb_core.proofs.RunLaws.{of_report}
 
 -- the entries stay, or one comes
 abbrev pub Grown : List Entry → List Entry → Type 0
@@ -98,11 +59,9 @@ module _ (script : Script) (es : List Entry) (e : Entry) (t : ℕ) where
 
 -- each value that a result shows has a source
 abbrev pub RunShows : Script → List Entry → ℕ → ℕ → RunAt → Type 0
-RunShows script es t k x = (i : ℕ) (r : StmtResult) → slice_get x.results i ≡ Some r → (s : Statement) × (statement_at script t k i ≡ Some s) × Shows script es t s r
+RunShows script es t k x = EachResult (λ t k i s r. Shows script es t s r) script t k x
 
 pub record Traced (script : Script) (w : WorldAt) : Type 0 where
-  pub kept : IsWorld w
-  pub runs : IsRunning script w
   pub words : AreSourcedWords script w.shared.book.entries w.shared.words
   pub copies : AreSourcedCopies script w.shared.book.entries
   pub workers : (t : ℕ) → t < length w.workers → IsTracedWorker script w.shared.book.entries t (worker_at w t).channel (worker_at w t).stage
@@ -110,11 +69,11 @@ pub record Traced (script : Script) (w : WorldAt) : Type 0 where
   pub shown : (t k : ℕ) → k < length (threads_at w t) → RunShows script w.shared.book.entries t k (run_at w t k)
 
 -- what a step of a worker leaves
-pub record Own (script : Script) (w : WorldAt) (t : ℕ) (x : WorkerAt) (e : Effect) : Type 0 where
-  pub words : AreSourcedWords script e.shared.book.entries e.shared.words
-  pub copies : AreSourcedCopies script e.shared.book.entries
-  pub own : IsTracedWorker script e.shared.book.entries t (worker_after x e.seen).channel (worker_after x e.seen).stage
-  pub grown : Grown w.shared.book.entries e.shared.book.entries
+pub record Own (script : Script) (w : WorldAt) (t : ℕ) (y : WorkerAt) (s : SharedAt) : Type 0 where
+  pub words : AreSourcedWords script s.book.entries s.words
+  pub copies : AreSourcedCopies script s.book.entries
+  pub own : IsTracedWorker script s.book.entries t y.channel y.stage
+  pub grown : Grown w.shared.book.entries s.book.entries
 
 module _ (script : Script) (w : WorldAt) (t channels c : ℕ) where
   pub grown_at : (stage : WorkerStage)
@@ -122,60 +81,51 @@ module _ (script : Script) (w : WorldAt) (t channels c : ℕ) where
   grown_at (Answer taken) = inr (entry_of w.shared.book.space t c taken (target_decision w.shared.book t taken), refl)
   grown_at _ = inl refl
 
-own_step : (script : Script) (w : WorldAt) (t : ℕ) → Traced script w → t < length w.workers → Own script w t (worker_at w t) (on_worker w.shared t (worker_at w t) (worker_plan (worker_at w t)))
+own_step : (script : Script) (w : WorldAt) (t : ℕ) → Keeps script (Traced script) w → t < length w.workers → Own script w t (worker_at (worker_step w t) t) (worker_step w t).shared
 own_step script w t r there =
     let k = r.kept.workers t there in
     let x = worker_at w t in
-    let h = r.workers t there in
-    subst (λ (z : WorkerAt). Own script w t z (on_worker w.shared t z (worker_plan z))) (sym (its_own w t r.kept there))
-    (record {
-      words = own_words script w t x.channels x.channel r.kept there k.within k.few k.sized r.words r.copies x.stage k.sound h;
-      copies = own_copies script w t x.channels x.channel r.kept there k.within k.few k.sized r.words r.copies x.stage h;
-      own = own_traced script w t x.channels x.channel r.kept there k.within k.few k.sized r.words r.copies x.stage k.sound h;
+    let h = r.has.workers t there in
+    of_own w t r.kept there (λ x y s. Own script w t y s) (record {
+      words = own_words script w t x.channels x.channel r.kept there k.within k.few k.sized r.has.words r.has.copies x.stage k.sound h;
+      copies = own_copies script w t x.channels x.channel r.kept there k.within k.few k.sized r.has.words r.has.copies x.stage h;
+      own = own_traced script w t x.channels x.channel r.kept there k.within k.few k.sized r.has.words r.has.copies x.stage k.sound h;
       grown = grown_at script w t x.channels x.channel x.stage;
     })
 
-traced_worker : (script : Script) (w : WorldAt) (t : ℕ) → Traced script w → t < length w.workers → Traced script (worker_step w t)
+traced_worker : (script : Script) (w : WorldAt) (t : ℕ) → Keeps script (Traced script) w → t < length w.workers → Traced script (worker_step w t)
 traced_worker script w t r there =
     let o = own_step script w t r there in
     let es = w.shared.book.entries in
     let after = (worker_step w t).shared.book.entries in
     record {
-      kept = worker_keeps w t r.kept there;
-      runs = worker_runs script w t r.kept r.runs there;
       words = o.words;
       copies = o.copies;
       workers = λ u l. each u (subst (λ n. u < n) (length-set w.workers t _) l) (ℕ_discrete u t) o;
-      threads = λ u k l. grow (λ z. IsTracedThread script z u (run_at w u k).thread.stage) es after (λ e. more_thread script es e u (run_at w u k).thread.stage) o.grown (r.threads u k l);
+      threads = λ u k l. grow (λ z. IsTracedThread script z u (run_at w u k).thread.stage) es after (λ e. more_thread script es e u (run_at w u k).thread.stage) o.grown (r.has.threads u k l);
       shown = λ u k l i q f.
-          let s = r.shown u k l i q f in
+          let s = r.has.shown u k l i q f in
           (s.0, s.1, grow (λ z. Shows script z u s.0 q) es after (λ e. more_shows script es e u s.0 q) o.grown s.2);
     }
   where
-    each : (u : ℕ) → u < length w.workers → Dec (u ≡ t) → Own script w t (worker_at w t) (on_worker w.shared t (worker_at w t) (worker_plan (worker_at w t)))
+    each : (u : ℕ) → u < length w.workers → Dec (u ≡ t) → Own script w t (worker_at (worker_step w t) t) (worker_step w t).shared
         → IsTracedWorker script (worker_step w t).shared.book.entries u (worker_at (worker_step w t) u).channel (worker_at (worker_step w t) u).stage
     each u l (yes e) o =
-        subst (λ z. IsTracedWorker script (worker_step w t).shared.book.entries z (worker_at (worker_step w t) z).channel (worker_at (worker_step w t) z).stage) (sym e)
-        (subst (λ (y : WorkerAt). IsTracedWorker script (worker_step w t).shared.book.entries t y.channel y.stage) (sym (get_or-set_same w.workers t _ no_worker there)) o.own)
+        subst (λ z. IsTracedWorker script (worker_step w t).shared.book.entries z (worker_at (worker_step w t) z).channel (worker_at (worker_step w t) z).stage) (sym e) o.own
     each u l (no ne) o =
         subst (λ (y : WorkerAt). IsTracedWorker script (worker_step w t).shared.book.entries u y.channel y.stage) (sym (get_or-set_other w.workers t u _ no_worker ne))
         (grow (λ z. IsTracedWorker script z u (worker_at w u).channel (worker_at w u).stage) w.shared.book.entries (worker_step w t).shared.book.entries
-        (λ e. more_worker script w.shared.book.entries e u (worker_at w u).channel (worker_at w u).stage) o.grown (r.workers u l))
+        (λ e. more_worker script w.shared.book.entries e u (worker_at w u).channel (worker_at w u).stage) o.grown (r.has.workers u l))
 
--- a step of a thread
-pub low_word : (script : Script) (t : ℕ) (word : Word) → has_word script.targets t word ≡ true → word.at < 65
-low_word script t word h =
-    let second = (and_parts (nat_lt word.channel (channels_of (slice_get script.targets t))) (nat_le word.at 64) h).1 in
-    grind (arith, nat_tests, second)
-
+-- what a step of a thread finds
 module _ (script : Script) (w : WorldAt) (all : AreSourcedWords script w.shared.book.entries w.shared.words) (x : ThreadAt) where
   abbrev es : List Entry
   es = w.shared.book.entries
 
   finds_at : (loads most : ℕ) (o : Option Statement) → IfSome o (λ s. is_statement script.targets s ≡ true) → (y : ThreadAt) → IsActThere w.shared.words (stray_row script y loads most o).step
       → FindsAt script es o (value_in (on_word w.shared (stray_row script y loads most o).step).seen)
-  finds_at loads most (Some (statement.Exchange u word from to)) good y h = all u word.channel word.at (low_word script u word good) h.inside
-  finds_at loads most (Some (statement.Load u word)) good y h = all u word.channel word.at (low_word script u word good) h.inside
+  finds_at loads most (Some (statement.Exchange u word from to)) good y h = let low = (word_parts script u word good).1 in all u word.channel word.at (omega (arith, low)) h.inside
+  finds_at loads most (Some (statement.Load u word)) good y h = let low = (word_parts script u word good).1 in all u word.channel word.at (omega (arith, low)) h.inside
   finds_at loads most _ good y h = tt
 
   finds : (stage : ThreadStage) → IsSoundThreadStage (length x.clean) x.patience x.block stage → IfSome (statement_at script x.target x.thread x.place) (λ s. is_statement script.targets s ≡ true)
@@ -186,27 +136,8 @@ module _ (script : Script) (w : WorldAt) (all : AreSourcedWords script w.shared.
   finds _ s good h = tt
 
 module _ (targets : SoundTargets) (statements : SoundStatements) (script : Script) where
-  -- the results of a thread after its step
-  shows_more : (es : List Entry) (t k : ℕ) (x : RunAt) (ended : Option StmtResult) → x.thread.target ≡ t → x.thread.thread ≡ k → length x.results ≡ x.thread.place
-      → RunShows script es t k x → IfSome ended (λ r. ShowsStatement script es x.thread r) → (i : ℕ) (r : StmtResult) → slice_get (x.results ++ option_to_list ended) i ≡ Some r
-      → (s : Statement) × (statement_at script t k i ≡ Some s) × Shows script es t s r
-  shows_more es t k x ended et ek counted shown own i r e = ⊎_elim (λ h. shown i r h) (λ h. last ended own h) (behind x.results ended i r e)
-    where
-      placed : (place : ℕ) (q : StmtResult) → i ≡ place → (s : Statement) × (statement_at script x.thread.target x.thread.thread place ≡ Some s) × Shows script es x.thread.target s q
-          → (s : Statement) × (statement_at script t k i ≡ Some s) × Shows script es t s q
-      placed place q f own =
-          (own.0, ap (λ (z : ℕ × ℕ × ℕ). statement_at script z.0 z.1 z.2) (λ j. (sym et j, sym ek j, f j)) ∙ own.1, subst (λ z. Shows script es z own.0 q) et own.2)
-
-      last : (ended : Option StmtResult) → IfSome ended (λ r. ShowsStatement script es x.thread r) → (i ≡ length x.results) × (ended ≡ Some r)
-          → (s : Statement) × (statement_at script t k i ≡ Some s) × Shows script es t s r
-      last None own h = absurd (none_some r h.1)
-      last (Some q) own h =
-          subst (λ z. (s : Statement) × (statement_at script t k i ≡ Some s) × Shows script es t s z) (some_same q r h.1) (placed x.thread.place q (h.0 ∙ counted) own)
-
-  traced_thread : (w : WorldAt) (t k : ℕ) → Traced script w → is_there script.targets (Thread t k) ≡ true → Traced script (step script w (Thread t k))
-  traced_thread w t k r e =
-      let there = thread_is_there script w t k r.runs e in
-      let kept = step_keeps statements script w (Thread t k) r.kept r.runs e in
+  traced_thread : (w : WorldAt) (t k : ℕ) → Keeps script (Traced script) w → k < length (threads_at w t) → Traced script (step script w (Thread t k))
+  traced_thread w t k r there =
       let x = r.kept.threads t k there in
       let at = r.runs.stands t k there in
       let es = w.shared.book.entries in
@@ -216,26 +147,24 @@ module _ (targets : SoundTargets) (statements : SoundStatements) (script : Scrip
       let seen = (on_word w.shared (thread_plan script y)).seen in
       let next = thread_after script y seen in
       let told : Traces script es y next =
-      row_traces script es y y.stage refl x.sound at.calling at.over (subst (λ u. IsTracedThread script es u y.stage) (sym x.its_target) (r.threads t k there)) seen
-      (finds script w r.words y y.stage x.sound good inside) in
+      step_traces script es y x.sound at.calling at.over (subst (λ u. IsTracedThread script es u y.stage) (sym x.its_target) (r.has.threads t k there)) seen
+      (finds script w r.has.words y y.stage x.sound good inside) in
       let z : RunAt = record { thread = next.thread; results = (run_at w t k).results ++ option_to_list next.ended } in
       let here = listed w.threads t k there in
       let book : es ≡ (step script w (Thread t k)).shared.book.entries = ap (λ b. b.entries) (sym (thread_book script w t k r.kept r.runs there statements)) in
       record {
-        kept = kept.0;
-        runs = kept.1;
         words = subst (λ q. AreSourcedWords script q (step script w (Thread t k)).shared.words) book
-            (sourced_words script es w.shared (thread_plan script y) r.words inside (row_writes script es y y.stage x.sound at.calling x.short at.block good));
-        copies = subst (λ q. AreSourcedCopies script q) book r.copies;
-        workers = λ u l. subst (λ q. IsTracedWorker script q u (worker_at w u).channel (worker_at w u).stage) book (r.workers u l);
+            (sourced_words script es w.shared (thread_plan script y) r.has.words inside (row_writes script es y y.stage x.sound at.calling x.short at.block good));
+        copies = subst (λ q. AreSourcedCopies script q) book r.has.copies;
+        workers = λ u l. subst (λ q. IsTracedWorker script q u (worker_at w u).channel (worker_at w u).stage) book (r.has.workers u l);
         threads = subst (λ q. (u j : ℕ) → j < length (get_or (set w.threads t (set (threads_at w t) k z)) u [])
             → IsTracedThread script q u (get_or (get_or (set w.threads t (set (threads_at w t) k z)) u []) j no_run).thread.stage) book
-            (each_set (λ u j (q : RunAt). IsTracedThread script es u q.thread.stage) no_run w.threads t k z here there r.threads
+            (each_set (λ u j (q : RunAt). IsTracedThread script es u q.thread.stage) no_run w.threads t k z here there r.has.threads
             (subst (λ u. IsTracedThread script es u next.thread.stage) x.its_target told.stage));
         shown = subst (λ q. (u j : ℕ) → j < length (get_or (set w.threads t (set (threads_at w t) k z)) u [])
             → RunShows script q u j (get_or (get_or (set w.threads t (set (threads_at w t) k z)) u []) j no_run)) book
-            (each_set (RunShows script es) no_run w.threads t k z here there r.shown
-            (shows_more es t k (run_at w t k) next.ended x.its_target x.its_number x.counted (r.shown t k there) told.shown));
+            (each_set (RunShows script es) no_run w.threads t k z here there r.has.shown
+            (one_more (λ t k i s r. Shows script es t s r) script t k (run_at w t k) next.ended x.its_target x.its_number x.counted (r.has.shown t k there) told.shown));
       }
 
   -- at the start
@@ -260,8 +189,6 @@ module _ (targets : SoundTargets) (statements : SoundStatements) (script : Scrip
 
   traced_start : (policies : List Policy) → IsReady policies script → Traced script (start_world policies script)
   traced_start policies h = record {
-    kept = kept;
-    runs = runs;
     words = λ t c j l m.
         let n = channels_of (slice_get script.targets t) in
         let size = free_length n in
@@ -272,40 +199,26 @@ module _ (targets : SoundTargets) (statements : SoundStatements) (script : Scrip
     workers = λ t l.
         subst (λ (x : WorkerAt). IsTracedWorker script [] t x.channel x.stage)
         (sym (each_is (first_worker script.targets) (first_workers script.targets) refl (λ n. refl) (length script.targets) t no_worker
-        (subst (λ n. t < n) (as_many script (start_world policies script) kept runs) l))) tt;
+        (subst (λ n. t < n) (so_many (first_worker script.targets) (first_workers script.targets) refl (λ n. refl) (length script.targets)) l))) tt;
     threads = λ t k l. subst (λ (x : RunAt). IsTracedThread script [] t x.thread.stage) (sym (start_run targets statements policies script h t k l)) (traced_first script [] t (statement_at script t k 0));
     shown = λ t k l i r e. absurd (none_of i r (ap (λ (x : RunAt). slice_get x.results i) (sym (start_run targets statements policies script h t k l)) ∙ e));
   }
-    where
-      kept : IsWorld (start_world policies script)
-      kept = starts_world targets statements policies script h
 
-      runs : IsRunning script (start_world policies script)
-      runs = starts_running targets statements policies script h
+  traced_of : (w : WorldAt) → IsOfScript script w → Keeps script (Traced script) w
+  traced_of w o =
+      holds_on targets statements script (Traced script) (traced_worker script) traced_thread o.policies o.ready (traced_start o.policies o.ready) w (leads_of script w o)
 
-  traced_step : (w : WorldAt) (actor : Actor) → Traced script w → is_there script.targets actor ≡ true → Traced script (step script w actor)
-  traced_step w (Worker t) r e = traced_worker script w t r (worker_is_there script w t r.kept r.runs e)
-  traced_step w (Thread t k) r e = traced_thread w t k r e
-
-  traced_of : (w : WorldAt) → IsOfScript script w → Traced script w
-  traced_of w o = kept_along script (Traced script) traced_step (start_world o.policies script) w (leads_of script w o) (traced_start o.policies o.ready)
-
-  -- the results of such a world, as a report shows them
-  shown_results : (w : WorldAt) → Traced script w → (threads : List (List RunAt)) → w.threads ≡ threads → (t k i : ℕ) (r : StmtResult) → result_at (results_of threads) t k i ≡ Some r
-      → (s : Statement) × (statement_at script t k i ≡ Some s) × Shows script w.shared.book.entries t s r
-  shown_results w traced threads same t k i r e = by_test (ltb k (length (threads_at w t))) refl
-    where
-      found : slice_get (run_at w t k).results i ≡ Some r
-      found = ap (λ (z : List (List RunAt)). slice_get (get_or (get_or z t []) k no_run).results i) same ∙ (sym (results_at threads t k i) ∙ e)
-
-      by_test : (b : Bool) → ltb k (length (threads_at w t)) ≡ b → (s : Statement) × (statement_at script t k i ≡ Some s) × Shows script w.shared.book.entries t s r
-      by_test true f = let low : k < length (threads_at w t) = grind (arith, nat_tests) in traced.shown t k low i r found
-      by_test false f =
-          let past : length (threads_at w t) ≤ k = grind (arith, nat_tests) in
-          absurd (none_of i r (ap (λ (x : RunAt). slice_get x.results i) (sym (no_run_past (threads_at w t) k past)) ∙ found))
-
+  -- the report of such a world
   sourced_of : (w : WorldAt) (threads : List (List RunAt)) → w.threads ≡ threads → IsOfScript script w → IsSourced script (report_of w.shared (results_of threads))
-  sourced_of w threads same o = let r = traced_of w o in record { copies = r.copies; results = shown_results w r threads same; words = r.words }
+  sourced_of w threads same o =
+      let r = (traced_of w o).has in
+      let es = w.shared.book.entries in
+      record {
+        copies = r.copies;
+        results = of_report (λ t k i s r. Shows script es t s r) script threads
+            (subst (λ (z : List (List RunAt)). (t k : ℕ) → k < length (get_or z t []) → RunShows script es t k (get_or (get_or z t []) k no_run)) same r.shown);
+        words = r.words;
+      }
 
 pub worlds_are_sourced : SoundTargets → SoundStatements → WorldsAreSourced
 worlds_are_sourced targets statements script w o = sourced_of targets statements script w w.threads refl o

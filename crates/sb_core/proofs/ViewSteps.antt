@@ -1,38 +1,10 @@
 -- The views of one target through a step: of its worker, of a thread within a call, or of a direct store.
-use Rattle.std.proofs.Common.{◌≡◌, ◌≢◌, ◌∙◌, ap, subst, sym, ℕ, ◌<◌, Bool, List, ◌++◌, length, length-set, map, set, get_or, get_or-set_same, get_or-set_other, Some}
-use Rattle.std.specs.Prelude.{slice_index}
-use Rattle.std.proofs.lemmas.List.{map-append}
-use native.Mathlib.Decide.{ℕ_discrete}
-use Rattle.sb_actor.specs.Following.{Follows, Tells, WorkerFollows, act_word, act_wrote}
-use Rattle.sb_actor.specs.Laws.{BlocksAreWhole, Starts, StrayKeeps, ThreadKeeps, WorkerKeeps, words_after}
-use Rattle.sb_actor.specs.Moves.{Deed, IsBlock, StrayMay, ended, served_by, thread_view, worker_view}
-use Rattle.sb_actor.specs.Places.{clean_channels}
-use Rattle.sb_actor.specs.Ranges.{IsSoundStage, IsSoundThreadStage}
-use Rattle.sb_actor.specs.Rule.{Rule}
-use Rattle.sb_actor.specs.ThreadFollowing.{GivesUp, GivingUpIsKept, ThreadFollows, ThreadGoes}
-use Rattle.sb_actor.specs.ThreadStages.{ThreadAt}
-use Rattle.sb_actor.specs.ThreadTable.{thread_after, thread_plan}
-use Rattle.sb_actor.specs.Ties.{thread_deed, thread_place_of, worker_deed, worker_place_of}
-use Rattle.sb_actor.specs.WorkerStages.{WorkerAt}
-use Rattle.sb_actor.specs.WorkerTable.{worker_after, worker_plan}
-use Rattle.sb_actor.specs.Observations.{Observation}
-use Rattle.sb_actor.specs.Views.{Had, Served, ThreadPlace, WorkerPlace, ThreadView, WorkerView}
-use Rattle.sb_statements.specs.declared.results.StmtResult.{StmtResult}
-use Rattle.sb_statements.specs.declared.scripts.Script.{Script}
-use Rattle.sb_core.specs.Views.{AreViews, HasView, OwnCall, ShowsThread, TargetViews, as_own, in_work, own_calls}
-use Rattle.sb_core.specs.Threads.{RunAt, no_run}
-use Rattle.sb_core.proofs.Placing.{set_else, set_here}
-
--- the laws of the rule
-pub record RuleLaws : Type 0 where
-  pub starts : Starts
-  pub thread_keeps : ThreadKeeps
-  pub worker_keeps : WorkerKeeps
-  pub stray_keeps : StrayKeeps
-  pub worker_follows : WorkerFollows
-  pub thread_follows : ThreadFollows
-  pub gives_up : GivingUpIsKept
-  pub blocks : BlocksAreWhole
+use Rattle.std.proofs.Common.{◌≡◌, ◌≢◌, ◌∙◌, ap, subst, sym, ℕ, ◌<◌, Bool, List, ◌++◌, length, length-set, map, set, get_or, get_or-set_same, get_or-set_other, Some, refl, true, false, ◌==◌, []}
+use Rattle.sb_core.proofs.Names.{Act, act_word, act_wrote, AreViews, as_own, clean_channels, Deed, exchanged, Follows, GivesUp, EndedCall, HasView, in_work, IsActThere, IsBlock, IsSoundStage, IsSoundThreadStage, loaded, map-append, no_run, Observation, on_word, own_calls, OwnCall, place_of, Rule, RuleLaws, RunAt, Script, Served, served_by, set-get_or, SharedAt, ShowsThread, slice_index, StmtResult, stored, StrayMay, TargetViews, Tells, thread_after, thread_deed, thread_place_of, thread_plan, thread_view, ThreadAt, ThreadGoes, ThreadPlace, ThreadView, words_after, words_of, worker_after, worker_deed, worker_place_of, worker_plan, worker_view, WorkerAt, WorkerPlace, WorkerView, ℕ_discrete}
+use Rattle.sb_actor.specs.Moves.{ended}
+use Rattle.sb_core.proofs.Sets.{set_else, set_here}
+use Rattle.sb_actor.specs.declared.acts.Act.TheVariants as act
+use Rattle.sb_core.proofs.Numbers.{is_same, not_same}
 
 -- the views of threads of which one went on
 views_set : (script : Script) (t : ℕ) (after : List ThreadView) (runs : List RunAt) (k : ℕ) (z : RunAt) → HasView script t after k z → k < length runs
@@ -48,8 +20,8 @@ views_set script t after runs k z own there others j l = by_place (ℕ_discrete 
         subst (λ (r : RunAt). HasView script t after j r) (sym (get_or-set_other runs k j z no_run n)) (others j (subst (λ m. j < m) (length-set runs k z) l) n)
 
 -- what a thread's view has after a call ended there
-has_more : (v : ThreadView) (old calls : List OwnCall) (more : List Had) → map as_own v.had ≡ old → calls ≡ old ++ map as_own more → map as_own (v.had ++ more) ≡ calls
-has_more v old calls more e f = map-append as_own v.had more ∙ (ap (λ (z : List OwnCall). z ++ map as_own more) e ∙ sym f)
+has_more : (v : ThreadView) (old calls : List OwnCall) (more : List EndedCall) → map as_own v.ended_calls ≡ old → calls ≡ old ++ map as_own more → map as_own (v.ended_calls ++ more) ≡ calls
+has_more v old calls more e f = map-append as_own v.ended_calls more ∙ (ap (λ (z : List OwnCall). z ++ map as_own more) e ∙ sym f)
 
 module _ (script : Script) (t : ℕ) (words : List ℕ) (calls : List Served) (x : WorkerAt) (runs : List RunAt) (views : TargetViews)
     (h : AreViews script t words calls x runs views) where
@@ -140,9 +112,9 @@ module _ (script : Script) (t : ℕ) (words : List ℕ) (calls : List Served) (x
       let z : RunAt = record { thread = (thread_after script y seen).thread; results = results } in
       let by : ended v.clean v.place d ≡ ended y.clean (thread_place_of y.block y.stage) d =
       ap (λ (q : List Bool × ThreadPlace). ended q.0 q.1 d) (λ j. (held.clean j, held.place j)) in
-      let has : map as_own next.had ≡ own_calls script t k results =
+      let has : map as_own next.ended_calls ≡ own_calls script t k results =
       has_more v (own_calls script t k (get_or runs k no_run).results) (own_calls script t k results) (ended v.clean v.place d) mine.2.has
-      (more ∙ ap (λ (q : List Had). own_calls script t k (get_or runs k no_run).results ++ map as_own q) (sym by)) in (
+      (more ∙ ap (λ (q : List EndedCall). own_calls script t k (get_or runs k no_run).results ++ map as_own q) (sym by)) in (
         record { worker = views.worker; threads = after },
         record {
           rule = subst (λ m. Rule clean (set words (act_word (thread_plan script y)) m) views.worker after) (sym f.writes)
@@ -158,3 +130,38 @@ module _ (script : Script) (t : ℕ) (words : List ℕ) (calls : List Served) (x
   pub stray_moves : RuleLaws → (w : ℕ) (d : Deed) → StrayMay clean w d → AreViews script t (words_after words w d) calls x runs views
   stray_moves laws w d may =
       record { rule = laws.stray_keeps clean words views.worker views.threads w d h.rule may; worker = h.worker; many = h.many; threads = h.threads }
+
+-- the step is on a word of this target
+abbrev pub names : Act → ℕ → Bool
+names (act.Load t word) u = t == u
+names (act.Store t word value) u = t == u
+names (act.Exchange t word from to) u = t == u
+names _ u = false
+
+-- a load gives what is there
+pub tells : (s : SharedAt) (a : Act) (u : ℕ) → names a u ≡ true → Tells a (slice_index (words_of s.words u) (act_word a)) (on_word s a).seen
+tells s (act.Load t word) u e = ap (λ z. slice_index (words_of s.words z) (place_of word)) (is_same t u e)
+tells s (act.Store t word value) u e = tt
+tells s (act.Exchange t word from to) u e = ap (λ z. slice_index (words_of s.words z) (place_of word)) (is_same t u e)
+tells s _ u e = absurd (cc)
+
+-- the words of its target
+pub named_words : (s : SharedAt) (a : Act) (u : ℕ) → names a u ≡ true → IsActThere s.words a
+    → words_of (on_word s a).shared.words u ≡ set (words_of s.words u) (act_word a) (act_wrote a (slice_index (words_of s.words u) (act_word a)))
+named_words s (act.Load t word) u e h = sym (set-get_or (words_of s.words u) (place_of word) 0)
+named_words s (act.Store t word value) u e h =
+    subst (λ z. words_of (set s.words t (stored (words_of s.words t) word value)) z ≡ set (words_of s.words z) (place_of word) value) (is_same t u e)
+    (get_or-set_same s.words t (stored (words_of s.words t) word value) [] h.listed)
+named_words s (act.Exchange t word from to) u e h =
+    subst (λ z. words_of (set s.words t (stored (words_of s.words t) word (exchanged (loaded (words_of s.words t) word) from to))) z
+    ≡ set (words_of s.words z) (place_of word) (exchanged (slice_index (words_of s.words z) (place_of word)) from to)) (is_same t u e)
+    (get_or-set_same s.words t (stored (words_of s.words t) word (exchanged (loaded (words_of s.words t) word) from to)) [] h.listed)
+named_words s _ u e h = absurd (cc)
+
+-- and those of another
+pub other_words : (s : SharedAt) (a : Act) (u : ℕ) → names a u ≡ false → words_of (on_word s a).shared.words u ≡ words_of s.words u
+other_words s (act.Store t word value) u e =
+    get_or-set_other s.words t u (stored (words_of s.words t) word value) [] (λ f. absurd (not_same t u e (sym f)))
+other_words s (act.Exchange t word from to) u e =
+    get_or-set_other s.words t u (stored (words_of s.words t) word (exchanged (loaded (words_of s.words t) word) from to)) [] (λ f. absurd (not_same t u e (sym f)))
+other_words s _ u e = refl

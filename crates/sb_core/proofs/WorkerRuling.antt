@@ -1,33 +1,13 @@
 -- A step of a worker keeps the rule of each target.
-use Rattle.std.proofs.Common.{◌≡◌, ◌≢◌, ◌∙◌, refl, ap, subst, sym, ℕ, ◌+◌, ◌*◌, ◌<◌, ◌≤◌, Bool, true, false, cond, ◌==◌, if◌then◌else◌, List, [], ◌∷◌, ◌++◌, length, length-set, map, take, get_or-set_same, Some, is_none}
-use Rattle.std.proofs.lemmas.List.{append-nil, map-append}
+use Rattle.std.proofs.Common.{◌≡◌, ◌≢◌, ◌∙◌, refl, ap, subst, sym, ℕ, ◌+◌, ◌*◌, ◌<◌, ◌≤◌, Bool, true, false, cond, ◌==◌, if◌then◌else◌, List, [], ◌∷◌, ◌++◌, length, length-set, map, take, Some, is_none}
 use Rattle.std.proofs.lemmas.List.Elements.{filter-append}
-use Rattle.std.specs.List.{filter}
-use Rattle.std.specs.Prelude.{nat_lt, slice_index}
-use native.Mathlib.Decide.{ℕ_discrete}
+use Rattle.sb_core.proofs.Names.{Ack, acknowledge, Answer, answer, append-nil, AreViews, as_call, calls_at, Copied, copied, Copy, copy, Count, Deed, Effect, End, Entry, entry_of, filter, Give, in_work, InRule, is_end, is_of_target, IsSoundStage, IsWorld, load_count, load_end, loaded, Look, look, look_next, map-append, nat_lt, offset_of, on_word, on_worker, RuleLaws, Script, Served, served_by, slice_index, Take, target_decision, TargetViews, threads_at, words_of, worker_after, worker_at, worker_deed, worker_place_of, worker_plan, worker_step, WorkerAt, WorkerStage, WorldAt, ℕ_discrete}
 use Rattle.sb_actor.specs.Acts.{ready}
-use Rattle.sb_actor.specs.Moves.{Deed, acknowledge, answer, copy, load_count, load_end, look, served_by}
-use Rattle.sb_actor.specs.Ranges.{IsSoundStage}
-use Rattle.sb_actor.specs.Ties.{worker_deed, worker_place_of}
-use Rattle.sb_actor.specs.WorkerStages.{WorkerStage, WorkerAt, Look, Count, End, Copy, Take, Answer, Give, Reply, Ack}
-use Rattle.sb_actor.specs.WorkerTable.{look_next, worker_after, worker_plan}
-use Rattle.sb_actor.specs.Views.{Served}
+use Rattle.sb_actor.specs.WorkerStages.{Reply}
 use Rattle.sb_actor.specs.Views as place
-use Rattle.sb_block.specs.Copies.{Copied, copied, is_end}
-use Rattle.sb_block.specs.Packing.{offset_of}
-use Rattle.sb_book.specs.Histories.{entry_of, target_decision}
-use Rattle.sb_book.specs.declared.entries.Entry.{Entry}
-use Rattle.sb_statements.specs.declared.scripts.Script.{Script}
-use Rattle.sb_core.specs.Kept.{IsWorld}
-use Rattle.sb_core.specs.Shared.{Effect, on_word, on_worker}
-use Rattle.sb_book.specs.Targets.{is_of_target}
-use Rattle.sb_core.specs.Views.{AreViews, InRule, TargetViews, as_call, calls_at, in_work}
-use Rattle.sb_core.specs.Words.{loaded, words_of}
-use Rattle.sb_core.specs.Worlds.{WorldAt, no_worker, threads_at, worker_at, worker_goes, worker_step}
-use Rattle.sb_core.proofs.Naming.{named_words, names, tells}
-use Rattle.sb_core.proofs.ViewSteps.{RuleLaws, worker_moves, worker_stays}
+use Rattle.sb_core.proofs.ViewSteps.{worker_moves, worker_stays, named_words, names, tells}
 use Rattle.sb_core.proofs.Settling.{other_stays}
-use Rattle.sb_core.proofs.There.{its_own, target_low, words_listed, worker_act}
+use Rattle.sb_core.proofs.Existence.{target_low, words_listed, worker_act, of_own}
 use Rattle.sb_core.proofs.Numbers.{apart, self_same}
 
 -- the calls of a target after one more entry
@@ -156,34 +136,20 @@ module _ (laws : RuleLaws) (script : Script) (w : WorldAt) (t channels c : ℕ) 
 -- the calls of another target
 module _ (w : WorldAt) (t u : ℕ) (x : WorkerAt) (ne : u ≢ t) where
   other_calls : (stage : WorkerStage) → calls_at u (on_worker w.shared t (record x { stage = stage }) (worker_plan (record x { stage = stage }))).shared.book.entries ≡ calls_at u w.shared.book.entries
-  other_calls Look = refl
-  other_calls Count = refl
-  other_calls (End count) = refl
-  other_calls (Copy count end words) = refl
-  other_calls (Take taken) = refl
   other_calls (Answer taken) =
       let e = entry_of w.shared.book.space t x.channel taken (target_decision w.shared.book t taken) in
       calls_more u w.shared.book.entries e false (apart t u ne) ∙ append-nil (calls_at u w.shared.book.entries)
-  other_calls (Give taken reply) = refl
-  other_calls (Reply taken reply i) = refl
-  other_calls (Ack taken reply) = refl
+  other_calls _ = refl
 
 module _ (laws : RuleLaws) (script : Script) (w : WorldAt) (t : ℕ) (kept : IsWorld w) (there : t < length w.workers) where
   own_rule : InRule script w t → InRule script (worker_step w t) t
   own_rule before =
       let k = kept.workers t there in
       let x = worker_at w t in
-      subst (λ (z : WorkerAt). ((views : TargetViews) × AreViews script t (words_of w.shared.words t) (calls_at t w.shared.book.entries) z (threads_at w t) views)
-      → InRule script (worker_goes w t z (on_worker w.shared t z (worker_plan z))) t)
-      (sym (its_own w t kept there))
-      (λ b.
-      let m = own_target laws script w t x.channels x.channel kept there k.within k.few k.sized x.stage k.sound b in (
-        m.0,
-        subst (λ (y : WorkerAt). AreViews script t (words_of (on_worker w.shared t (record x { target = t }) (worker_plan (record x { target = t }))).shared.words t)
-            (calls_at t (on_worker w.shared t (record x { target = t }) (worker_plan (record x { target = t }))).shared.book.entries) y (threads_at w t) m.0)
-            (sym (get_or-set_same w.workers t _ no_worker there)) m.1,
-      ))
-      before
+      of_own w t kept there
+      (λ x y s. ((views : TargetViews) × AreViews script t (words_of w.shared.words t) (calls_at t w.shared.book.entries) x (threads_at w t) views)
+      → (views : TargetViews) × AreViews script t (words_of s.words t) (calls_at t s.book.entries) y (threads_at w t) views)
+      (own_target laws script w t x.channels x.channel kept there k.within k.few k.sized x.stage k.sound) before
 
   other_rule : (u : ℕ) → u ≢ t → InRule script w u → InRule script (worker_step w t) u
   other_rule u ne before =

@@ -1,21 +1,9 @@
 -- A step of a worker makes no entry that is not owed.
 use Rattle.std.proofs.Common.{◌≡◌, ◌≢◌, ◌∙◌, refl, ap, subst, sym, ℕ, ◌+◌, ◌*◌, ◌%◌, ◌<◌, ◌≤◌, Bool, true, false, ◌&&◌, ◌==◌, if◌then◌else◌, List, [], ◌∷◌, ◌++◌, length, set, get_or, get_or-set_same, get_or-set_other, is_none, arith}
-use Rattle.std.proofs.lemmas.List.Sums.{sum_by-append, sum_by-cons}
-use Rattle.std.specs.Prelude.{nat_lt, slice_index}
-use Rattle.sb_actor.specs.Moves.{at}
-use Rattle.sb_actor.specs.Ranges.{IsSoundStage}
-use Rattle.sb_actor.specs.WorkerStages.{WorkerStage, WorkerAt, Look, Count, End, Copy, Take, Answer, Give, Reply, Ack}
-use Rattle.sb_actor.specs.WorkerTable.{look_next, worker_after, worker_plan}
-use Rattle.sb_block.specs.Copies.{copied, is_end}
-use Rattle.sb_block.specs.Packing.{offset_of}
-use Rattle.sb_book.specs.Histories.{entry_of, target_decision}
-use Rattle.sb_book.specs.declared.entries.Entry.{Entry}
-use Rattle.sb_core.specs.Kept.{IsWorld}
-use Rattle.sb_core.specs.Shared.{Effect, on_worker}
-use Rattle.sb_core.specs.Tallies.{entries_on, one_if}
-use Rattle.sb_core.specs.Words.{exchanged, loaded, stored, words_of}
-use Rattle.sb_core.specs.Worlds.{WorldAt}
-use Rattle.sb_core.proofs.There.{words_listed}
+use Rattle.std.proofs.lemmas.List.Sums.{sum_by-append}
+use Rattle.sb_core.proofs.Names.{Ack, Answer, at, copied, Copy, Count, Effect, End, entries_on, Entry, entry_of, exchanged, Give, is_end, IsSoundStage, IsWorld, loaded, Look, look_next, nat_lt, offset_of, on_worker, one_if, slice_index, stored, sum_by-cons, Take, target_decision, words_of, worker_after, worker_plan, WorkerAt, WorkerStage, WorldAt}
+use Rattle.sb_actor.specs.WorkerStages.{Reply}
+use Rattle.sb_core.proofs.Existence.{words_listed}
 use Rattle.sb_core.proofs.Numbers.{is_same, not_same, self_same}
 
 -- whether an entry is still to come from a channel in this state: the worker is at it and has not marked, or the state is 3
@@ -109,9 +97,9 @@ module _ (w : WorldAt) (t channels d : ℕ) (kept : IsWorld w) (there : t < leng
       apart e = absurd (omega (arith, e, l))
 
   -- after the acknowledgement the state is not 3
-  acked : (b : Bool) → (get_or words (at d 0) 0 == 3) ≡ b
+  has_reply : (b : Bool) → (get_or words (at d 0) 0 == 3) ≡ b
       → one_if (slice_index (set words (at d 0) (if b then 4 else get_or words (at d 0) 0)) (at c 0) == 3) ≤ owed_by (d == c) (Ack (copied 0 0 []) []) state
-  acked b e = by_place (d == c) refl (if b then 4 else get_or words (at d 0) 0) (no_more b (get_or words (at d 0) 0) e)
+  has_reply b e = by_place (d == c) refl (if b then 4 else get_or words (at d 0) 0) (no_more b (get_or words (at d 0) 0) e)
     where
       no_more : (b : Bool) (n : ℕ) → (n == 3) ≡ b → one_if ((if b then 4 else n) == 3) ≡ 0
       no_more true n e = refl
@@ -160,6 +148,6 @@ module _ (w : WorldAt) (t channels d : ℕ) (kept : IsWorld w) (there : t < leng
       subst (λ (z : List ℕ). entries_on t c w.shared.book.entries + owed (worker_after (at_this (Ack taken reply)) (effect (Ack taken reply)).seen) c (slice_index z (at c 0))
       ≤ entries_on t c w.shared.book.entries + owed_by (d == c) (Ack taken reply) state) (sym (written new))
       (plus (entries_on t c w.shared.book.entries) _ _
-      (let low = acked (get_or words (at d 0) 0 == 3) refl in
+      (let low = has_reply (get_or words (at d 0) 0 == 3) refl in
       let looks_on = looking_owed (((d + 1) % channels) == c) (slice_index new (at c 0)) in
       omega (arith, low, looks_on)))

@@ -29,6 +29,7 @@ use Rattle.sb_core.specs.Threads.{RunAt}
 use Rattle.sb_core.specs.Views.{OwnCall, as_call, own_calls}
 use Rattle.sb_core.specs.Words.{some_ready, words_of}
 use Rattle.sb_core.specs.Worlds.{WorldAt, run_at, start_world, steps}
+use Rattle.sb_statements.specs.Words.{words_of_channel}
 
 -- the entry is of this target, on a clean channel, and its mark divided by 65,536 is k + 1
 abbrev pub is_entry_of : Script → ℕ → ℕ → Entry → Bool
@@ -70,7 +71,7 @@ ResultsSuit script results = (t k i : ℕ) (r : StmtResult) → result_at result
 
 -- each target has 65 words for each channel, no state is 3, and the state of each clean channel is 1
 pub record AreFinalWords (script : Script) (words : List (List ℕ)) : Type 0 where
-  pub sizes : map (λ ws. length ws) words ≡ map (λ target. target.channels * 65) script.targets
+  pub sizes : map (λ ws. length ws) words ≡ map (λ target. target.channels * words_of_channel) script.targets
   pub served : some_ready words ≡ false
   pub freed : (t c : ℕ) → t < length script.targets → is_clean (clean_channels script t) c ≡ true → slice_index (words_of words t) (at c 0) ≡ free
 

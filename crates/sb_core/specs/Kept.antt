@@ -15,6 +15,8 @@ use Rattle.sb_statements.specs.Actors.{thread_count}
 use Rattle.sb_core.specs.Threads.{RunAt}
 use Rattle.sb_core.specs.Words.{words_of}
 use Rattle.sb_core.specs.Worlds.{WorldAt, worker_at, threads_at, run_at}
+use Rattle.sb_block.specs.Layout.{most_words}
+use Rattle.sb_statements.specs.Words.{words_of_channel}
 
 -- the worker is in Answer or Give
 abbrev pub has_turn : WorkerStage → Bool
@@ -39,7 +41,7 @@ pub record IsWorkerOf (w : WorldAt) (t : ℕ) (x : WorkerAt) : Type 0 where
   pub within : x.channel < x.channels
   pub few : x.channels ≤ 8
   pub sound : IsSoundStage x.stage
-  pub sized : length (words_of w.shared.words t) ≡ x.channels * 65
+  pub sized : length (words_of w.shared.words t) ≡ x.channels * words_of_channel
   pub turn : has_turn x.stage ≡ is_holder w.shared.turn t
 
 -- a thread is that of its place, knows the channels of its target, its numbers are in their ranges, and it has one result for each
@@ -48,7 +50,7 @@ pub record IsRunOf (w : WorldAt) (t k : ℕ) (x : RunAt) : Type 0 where
   pub its_target : x.thread.target ≡ t
   pub its_number : x.thread.thread ≡ k
   pub its_channels : length x.thread.clean ≡ channels_at w t
-  pub short : length x.thread.block ≤ 64
+  pub short : length x.thread.block ≤ most_words
   pub sound : IsSoundThreadStage (length x.thread.clean) x.thread.patience x.thread.block x.thread.stage
   pub counted : length x.results ≡ x.thread.place
 

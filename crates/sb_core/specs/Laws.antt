@@ -25,6 +25,7 @@ use Rattle.sb_core.specs.Runs.{CanFinish, CanRun, finished, ran, schedule_of}
 use Rattle.sb_core.specs.Shared.{IsActThere}
 use Rattle.sb_core.specs.Words.{some_ready, words_of}
 use Rattle.sb_core.specs.Worlds.{WorldAt, all_finished, start_world, step, steps, rounds, run_at, threads_at, worker_at}
+use Rattle.sb_statements.specs.Words.{words_of_channel}
 
 -- a target of a script in a world that runs it has a worker, and 65 words for each channel; there are at most 8 targets of at most 8 channels
 pub record HasTarget (script : Script) (w : WorldAt) (t : ℕ) : Type 0 where
@@ -33,7 +34,7 @@ pub record HasTarget (script : Script) (w : WorldAt) (t : ℕ) : Type 0 where
   pub worker : t < length w.workers
   pub channels : channels_at w t ≡ channels_of (slice_get script.targets t)
   pub listed : t < length w.shared.words
-  pub sized : length (words_of w.shared.words t) ≡ channels_of (slice_get script.targets t) * 65
+  pub sized : length (words_of w.shared.words t) ≡ channels_of (slice_get script.targets t) * words_of_channel
 
 -- a world that runs a script has each target of it, and no other
 abbrev pub WorldsHaveTargets : Type 0
@@ -163,7 +164,7 @@ FinishedRunsAreWhole = (policies : List Policy) (script : Script) (schedule : Sc
 -- each target has 65 words for each channel
 abbrev pub RunsKeepWords : Type 0
 RunsKeepWords = (policies : List Policy) (script : Script) (schedule : Schedule) → CanRun policies script schedule
-    → map (λ words. length words) (ran policies script schedule).report.words ≡ map (λ target. target.channels * 65) script.targets
+    → map (λ words. length words) (ran policies script schedule).report.words ≡ map (λ target. target.channels * words_of_channel) script.targets
 
 -- From the start these steps lead to a world in which no thread is unfinished. If nobody has the turn there, the script runs by the schedule of these
 -- steps, and the report of that run is the one that `finish` gives for the world's words, workers, book and results, and the one of the drained world

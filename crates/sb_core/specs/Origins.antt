@@ -26,6 +26,9 @@ use Rattle.sb_core.specs.Results.{result_at}
 use Rattle.sb_core.specs.Runs.{CanRun, ran}
 use Rattle.sb_core.specs.Words.{words_of}
 use Rattle.sb_core.specs.Worlds.{WorldAt}
+use Rattle.sb_actor.specs.Acts.{abandoned, free}
+use Rattle.sb_block.specs.Layout.{first_descriptor, first_reply_word, most_parameters, reply_length}
+use Rattle.sb_statements.specs.Words.{words_of_channel}
 
 -- a statement stores or exchanges this value into word j of a channel of a target
 abbrev pub StoresThere : ℕ → ℕ → ℕ → ℕ → Statement → Type 0
@@ -37,9 +40,9 @@ StoresThere t c j x _ = ⊥
 abbrev pub IsStoredDirectly : Script → ℕ → ℕ → ℕ → ℕ → Type 0
 IsStoredDirectly script t c j x = (u k i : ℕ) × (s : Statement) × (statement_at script u k i ≡ Some s) × StoresThere t c j x s
 
--- a value has a source at a state word: it is one of the states 1 to 5, or a statement stores it there directly
+-- a value has a source at a state word: it is one of the states of a channel, or a statement stores it there directly
 abbrev pub HasStateSource : Script → ℕ → ℕ → ℕ → Type 0
-HasStateSource script t c x = ((1 ≤ x) × (x ≤ 5)) ⊎ IsStoredDirectly script t c 0 x
+HasStateSource script t c x = ((free ≤ x) × (x ≤ abandoned)) ⊎ IsStoredDirectly script t c 0 x
 
 -- it is word i of the block of a call of a thread of the target
 abbrev pub IsOfCall : Script → ℕ → ℕ → ℕ → Type 0
@@ -50,7 +53,7 @@ IsOfCall script t i x =
 -- it is the word of a reply on that channel that is at block word i: reply word j at block word 3 + j
 abbrev pub IsOfReply : List Entry → ℕ → ℕ → ℕ → ℕ → Type 0
 IsOfReply entries t c i x =
-    (n : ℕ) × (e : Entry) × (j : ℕ) × (slice_get entries n ≡ Some e) × (e.target ≡ t) × (e.channel ≡ c) × (j < 12) × (i ≡ 3 + j) × (x ≡ slice_index (reply_words e.reply) j)
+    (n : ℕ) × (e : Entry) × (j : ℕ) × (slice_get entries n ≡ Some e) × (e.target ≡ t) × (e.channel ≡ c) × (j < reply_length) × (i ≡ first_reply_word + j) × (x ≡ slice_index (reply_words e.reply) j)
 
 -- a value has a source at block word i of a channel: it is 0, of a call's block, of a statement that stores it there directly, or of a reply
 abbrev pub HasBlockSource : Script → List Entry → ℕ → ℕ → ℕ → ℕ → Type 0
@@ -66,7 +69,7 @@ pub record HasSource (script : Script) (entries : List Entry) (t c j x : ℕ) : 
 pub record IsSourcedCopy (script : Script) (entries : List Entry) (t c : ℕ) (taken : Copied) : Type 0 where
   pub words : (i : ℕ) → i < length taken.words → HasBlockSource script entries t c i (slice_index taken.words i)
   pub count : HasBlockSource script entries t c 2 taken.count_seen
-  pub end : taken.count_seen ≤ 9 → (x : ℕ) × (taken.end_seen ≡ offset_of x) × HasBlockSource script entries t c (15 + taken.count_seen) x
+  pub end : taken.count_seen ≤ most_parameters → (x : ℕ) × (taken.end_seen ≡ offset_of x) × HasBlockSource script entries t c (first_descriptor + taken.count_seen) x
 
 -- a reply that was fetched: its mark, outcome, status and handle, as many extended words as a word says, and at most seven, and each of these
 pub record IsSourcedReply (script : Script) (entries : List Entry) (t c : ℕ) (reply : Reply) : Type 0 where
@@ -97,7 +100,7 @@ AreSourcedCopies script entries = (n : ℕ) (e : Entry) → slice_get entries n 
 
 -- each word of each target has a source
 abbrev pub AreSourcedWords : Script → List Entry → List (List ℕ) → Type 0
-AreSourcedWords script entries words = (t c j : ℕ) → j < 65 → at c j < length (words_of words t) → HasSource script entries t c j (slice_index (words_of words t) (at c j))
+AreSourcedWords script entries words = (t c j : ℕ) → j < words_of_channel → at c j < length (words_of words t) → HasSource script entries t c j (slice_index (words_of words t) (at c j))
 
 -- No block is invented. Each word of a copy, each value that a result shows, and each word at the end has a source
 pub record IsSourced (script : Script) (report : Report) : Type 0 where

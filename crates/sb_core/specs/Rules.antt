@@ -1,5 +1,8 @@
 -- Rule S holds in every world of a script.
 use Rattle.std.specs.Prelude.{◌≡◌, ◌<◌, ℕ, true, List, length}
+use Rattle.sb_actor.specs.Following.{WorkerFollows}
+use Rattle.sb_actor.specs.Laws.{BlocksAreWhole, Starts, StrayKeeps, ThreadKeeps, WorkerKeeps}
+use Rattle.sb_actor.specs.ThreadFollowing.{GivingUpIsKept, ThreadFollows}
 use Rattle.sb_book.specs.Readiness.{IsReady}
 use Rattle.sb_rule.specs.declared.policies.Policy.{Policy}
 use Rattle.sb_statements.specs.declared.schedules.Actor.{Actor}
@@ -29,3 +32,14 @@ RunsKeepRule = (policies : List Policy) (script : Script) (schedule : Schedule) 
 -- so it holds in each world of a script, whichever steps led there
 abbrev pub WorldsOfScriptsKeepRule : Type 0
 WorldsOfScriptsKeepRule = (script : Script) (w : WorldAt) → IsOfScript script w → AreInRule script w
+
+-- the laws of the rule over views: it holds at the opening, each step that an actor may make keeps it, and each step of an actor is one of these
+pub record RuleLaws : Type 0 where
+  pub starts : Starts
+  pub thread_keeps : ThreadKeeps
+  pub worker_keeps : WorkerKeeps
+  pub stray_keeps : StrayKeeps
+  pub worker_follows : WorkerFollows
+  pub thread_follows : ThreadFollows
+  pub gives_up : GivingUpIsKept
+  pub blocks : BlocksAreWhole

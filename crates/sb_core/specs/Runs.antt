@@ -20,6 +20,7 @@ use Rattle.sb_core.specs.Threads.{first_unfinished}
 use Rattle.sb_core.specs.Worlds.{WorldAt, no_worker, start_world, steps, rounds}
 use Rattle.sb_book.specs.declared.reports.Report.{Report}
 use Rattle.sb_core.specs.declared.runs.Ran.{Ran}
+use Rattle.sb_statements.specs.Words.{words_of_channel}
 
 -- the script is ready for the policies, and it has each actor of the schedule
 pub record CanRun (policies : List Policy) (script : Script) (schedule : Schedule) : Type 0 where
@@ -36,7 +37,7 @@ pub record IsIdle (script : Script) (t : ℕ) (x : WorkerAt) : Type 0 where
 -- The parts of a world in which every thread is finished and nobody has the turn: 65 words for each channel of each target, one looking worker
 -- for each target, one result for each statement, and a book of this script
 pub record CanFinish (script : Script) (words : List (List ℕ)) (workers : List WorkerAt) (book : History) (results : List (List (List StmtResult))) : Type 0 where
-  pub sized : map (λ target. length target) words ≡ map (λ target. target.channels * 65) script.targets
+  pub sized : map (λ target. length target) words ≡ map (λ target. target.channels * words_of_channel) script.targets
   pub count : length workers ≡ length script.targets
   pub idle : (t : ℕ) → t < length workers → IsIdle script t (slice_index_or workers t no_worker)
   pub channels : book.setting.channels ≡ map (λ target. target.channels) script.targets

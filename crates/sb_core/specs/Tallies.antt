@@ -20,6 +20,7 @@ use Rattle.sb_core.specs.OfScripts.{IsOfScript}
 use Rattle.sb_core.specs.Runs.{CanRun, ran}
 use Rattle.sb_core.specs.Threads.{RunAt}
 use Rattle.sb_core.specs.Worlds.{WorldAt}
+use Rattle.sb_actor.specs.Acts.{ready}
 
 -- one if it holds
 abbrev pub one_if : Bool → ℕ
@@ -44,10 +45,10 @@ ends_on c _ = false
 abbrev pub is_state : ℕ → ℕ → ℕ → Word → Bool
 is_state t c u word = u == t && (word.channel == c && word.at == 0)
 
--- a statement made the channel ready directly: a store of 3 into its state, or an exchange to 3 on it that found its `from`
+-- a statement made the channel ready directly: a store of ready into its state, or an exchange to ready on it that found its `from`
 abbrev pub makes_ready : ℕ → ℕ → Option Statement → StmtResult → Bool
-makes_ready t c (Some (statement.Store u word value)) result.Stored = is_state t c u word && value == 3
-makes_ready t c (Some (statement.Exchange u word from to)) (result.Found n) = is_state t c u word && (n == from && to == 3)
+makes_ready t c (Some (statement.Store u word value)) result.Stored = is_state t c u word && value == ready
+makes_ready t c (Some (statement.Exchange u word from to)) (result.Found n) = is_state t c u word && (n == from && to == ready)
 makes_ready t c _ _ = false
 
 -- a result of a thread of target u counts as one of the calls on the channel, or as one of the statements that made it ready

@@ -9,7 +9,7 @@ use Rattle.sb_actor.specs.Rule.{Rule}
 use Rattle.sb_actor.specs.ThreadStages.{ThreadAt}
 use Rattle.sb_actor.specs.Ties.{HoldsThread, HoldsWorker}
 use Rattle.sb_actor.specs.WorkerStages.{WorkerStage, WorkerAt, Look, Count, End, Copy, Take, Answer, Give, Reply, Ack}
-use Rattle.sb_actor.specs.Views.{Had, Served, ThreadView, WorkerView}
+use Rattle.sb_actor.specs.Views.{EndedCall, Served, ThreadView, WorkerView}
 use Rattle.sb_block.specs.Replies.{read_reply, reply_words}
 use Rattle.sb_book.specs.Targets.{of_target}
 use Rattle.sb_book.specs.declared.entries.Entry.{Entry}
@@ -45,7 +45,7 @@ pub record OwnCall : Type 0 where
   pub reply : ReplyOf
 
 -- as a thread's view keeps it
-abbrev pub as_own : Had → OwnCall
+abbrev pub as_own : EndedCall → OwnCall
 as_own x = record { channel = x.channel; block = x.block; reply = read_reply x.reply }
 
 -- the call of a result Reply on a clean channel; other results have none
@@ -83,7 +83,7 @@ pub record ShowsWorker (calls : List Served) (x : WorkerAt) (v : WorkerView) : T
 -- a thread's view is where the thread is, and has its results Reply on clean channels
 pub record ShowsThread (calls : List OwnCall) (x : ThreadAt) (v : ThreadView) : Type 0 where
   pub holds : HoldsThread v x
-  pub has : map as_own v.had ≡ calls
+  pub has : map as_own v.ended_calls ≡ calls
 
 -- thread k of a target has such a view
 abbrev pub HasView : Script → ℕ → List ThreadView → ℕ → RunAt → Type 0

@@ -3,12 +3,13 @@ use Rattle.std.specs.Prelude.{ℕ, zero, suc, ◌/◌, ◌<◌, Bool, false, ◌
 use Rattle.std.specs.List.{list_any}
 use Rattle.sb_actor.specs.Acts.{free, ready}
 use Rattle.sb_actor.specs.Moves.{at}
-use Rattle.sb_statements.specs.Words.{place_of}
+use Rattle.sb_statements.specs.Words.{place_of, words_of_channel}
 use Rattle.sb_statements.specs.declared.statements.Word.{Word}
+use Rattle.sb_block.specs.Layout.{most_words}
 
 -- nobody uses the channel, and each word of its block is 0
 abbrev pub free_channel : List ℕ
-free_channel = free ∷ replicate 64 0
+free_channel = free ∷ replicate most_words 0
 
 -- the words of this many channels at the start
 abbrev pub free_channels : ℕ → List ℕ
@@ -27,16 +28,16 @@ stored words word value = slice_set words (place_of word) value
 abbrev pub exchanged : ℕ → ℕ → ℕ → ℕ
 exchanged found from to = if found == from then to else found
 
--- the state of one of the first n channels is 3
+-- one of the first n channels is ready
 abbrev pub is_ready_below : ℕ → List ℕ → Bool
 is_ready_below zero words = false
 is_ready_below (suc n) words = slice_index words (at n 0) == ready || is_ready_below n words
 
--- a state word of the target is 3
+-- a channel of the target is ready
 abbrev pub has_ready : List ℕ → Bool
-has_ready words = is_ready_below (length words / 65) words
+has_ready words = is_ready_below (length words / words_of_channel) words
 
--- a state word of some target is 3
+-- a channel of some target is ready
 abbrev pub some_ready : List (List ℕ) → Bool
 some_ready words = list_any has_ready words
 
@@ -48,6 +49,6 @@ words_of words target = slice_index_or words target []
 pub record IsWordThere (words : List (List ℕ)) (t : ℕ) (word : Word) : Type 0 where
   pub target : t < 8
   pub channel : word.channel < 8
-  pub low : word.at < 65
+  pub low : word.at < words_of_channel
   pub listed : t < length words
   pub inside : place_of word < length (words_of words t)

@@ -16,7 +16,7 @@ use sb_statements::{SoundScript, sound_parts};
 use std::alloc::Global;
 
 // The world of these parts, in which no thread is left and nobody has the turn.
-#[tactic(auto, using(crate::proofs::Finishing::finishing_world))]
+#[tactic(auto, using(crate::proofs::Ending::finishing_world))]
 fn world_of(
     alloc: Global,
     script: &SoundScript,

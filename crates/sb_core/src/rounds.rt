@@ -128,7 +128,7 @@ fn make_round<J: Judge>(
 ///
 /// # Errors
 /// `NoMemory` if a step ran out of memory.
-#[tactic(auto, using(crate::proofs::Finished::finished_by_stage, crate::proofs::Folding::rounds_done, crate::proofs::Folding::rounds_more), unfolding(crate::specs::Kept::RunsUnder))]
+#[tactic(auto, using(crate::proofs::Judging::finished_by_stage, crate::proofs::Folding::rounds_done, crate::proofs::Folding::rounds_more), unfolding(crate::specs::Kept::RunsUnder))]
 pub(crate) fn make_rounds<J: Judge>(
     alloc: Global,
     judge: &J,

@@ -2,7 +2,7 @@
 ghost use Rattle.sb_core.specs.EntryCounts.{RunsHaveFewEntries, StatementsAreFew, WorldsHaveFewEntries};
 ghost use Rattle.sb_core.specs.Fits.{RepliesAreOwn, RunsFit, RunsReplyOwn, WorldsOfScriptsReplyOwn};
 ghost use Rattle.sb_core.specs.Origins.{NoBlockIsInvented, WorldsAreSourced};
-ghost use Rattle.sb_core.specs.Rules.{RuleHolds, RunsKeepRule, WorldsOfScriptsKeepRule};
+ghost use Rattle.sb_core.specs.Rules.{RuleHolds, RuleLaws, RunsKeepRule, WorldsOfScriptsKeepRule};
 ghost use Rattle.sb_core.specs.Tallies.{EntriesAreFew, WorldsAreFew};
 
 use crate::laws::drains_settle;
@@ -15,6 +15,20 @@ use sb_book::answers_keep_histories;
 use sb_kernel::answers_are_short;
 use sb_statements::sound_parts;
 
+// The laws of rule S over the views of actors.
+fn rule_laws()
+    ensures { RuleLaws }
+{
+    starts_in_rule();
+    thread_keeps_rule();
+    worker_keeps_rule();
+    stray_keeps_rule();
+    worker_follows();
+    thread_follows();
+    clean_channels_are_kept();
+    blocks_are_whole();
+}
+
 /// After any list of steps of actors that are there, the channel words of each target keep rule S with what its worker and its threads
 /// know, and so they do in the world that a schedule leads to and after the drain of it. So on a channel that no statement writes
 /// directly the worker copies the whole block of the one thread that is there, and that thread fetches the whole reply to it. The
@@ -24,14 +38,7 @@ pub fn rule_holds()
     ensures runs { RunsKeepRule }
 {
     sound_parts();
-    starts_in_rule();
-    thread_keeps_rule();
-    worker_keeps_rule();
-    stray_keeps_rule();
-    worker_follows();
-    thread_follows();
-    clean_channels_are_kept();
-    blocks_are_whole();
+    rule_laws();
 }
 
 /// The report of a run in which no thread is unfinished fits its script: its entries are a legal history, there is one result for each
@@ -45,14 +52,7 @@ pub fn runs_fit()
     answers_are_short();
     replies_come_back();
     drains_settle();
-    starts_in_rule();
-    thread_keeps_rule();
-    worker_keeps_rule();
-    stray_keeps_rule();
-    worker_follows();
-    thread_follows();
-    clean_channels_are_kept();
-    blocks_are_whole();
+    rule_laws();
 }
 
 /// At any moment, the entries of a thread on clean channels are its results `Reply` there, in order, each with the whole block of its
@@ -65,14 +65,7 @@ pub fn replies_are_own()
     answers_keep_histories();
     answers_are_short();
     replies_come_back();
-    starts_in_rule();
-    thread_keeps_rule();
-    worker_keeps_rule();
-    stray_keeps_rule();
-    worker_follows();
-    thread_follows();
-    clean_channels_are_kept();
-    blocks_are_whole();
+    rule_laws();
 }
 
 /// No block is invented. In the report of every run each word of a copy has a source at its place in the channel: it is 0, of the

@@ -69,7 +69,7 @@ fn establish_few(script: &SoundScript, world: &World)
 }
 
 // Drains the world if every thread is finished, and reports.
-#[tactic(auto, using(crate::proofs::Draining::drained_threads))]
+#[tactic(auto, using(crate::proofs::Beginning::drained_threads))]
 fn ended<J: Judge>(
     alloc: Global,
     judge: &J,

@@ -30,7 +30,7 @@ pub(crate) fn first_words(
 ///
 /// # Errors
 /// `NoMemory` if there was none for the workers.
-#[tactic(auto, using(crate::proofs::Counting::workers_more))]
+#[tactic(auto, using(crate::proofs::Starting::workers_more))]
 pub(crate) fn first_workers(
     alloc: Global,
     script: &SoundScript,
@@ -48,7 +48,7 @@ pub(crate) fn first_workers(
 ///
 /// # Errors
 /// `NoMemory` if there was none for the threads and their results.
-#[tactic(auto, using(crate::proofs::Counting::threads_more))]
+#[tactic(auto, using(crate::proofs::Starting::threads_more))]
 pub(crate) fn first_threads(
     alloc: Global,
     script: &SoundScript,

@@ -103,7 +103,7 @@ impl TargetThreads {
     ///
     /// # Errors
     /// `NoMemory` if there was none for the threads and their results.
-    #[tactic(auto, using(crate::proofs::Counting::runs_more))]
+    #[tactic(auto, using(crate::proofs::Starting::runs_more))]
     pub(crate) fn new(
         alloc: Global,
         script: &SoundScript,

@@ -26,10 +26,10 @@ impl Model for TargetWords {
 }
 
 // A free channel whose block words are 0.
-fn free_channel() -> [u64; 65]
+fn free_channel() -> [u64; WORDS_OF_CHANNEL]
     ensures { result ≡ free_channel }
 {
-    let mut words = [0; 65];
+    let mut words = [0; WORDS_OF_CHANNEL];
     words[0] = FREE;
     words
 }
@@ -39,7 +39,7 @@ impl TargetWords {
     ///
     /// # Errors
     /// `NoMemory` if there was none for the words.
-    #[tactic(auto, using(crate::proofs::Counting::channels_more))]
+    #[tactic(auto, using(crate::proofs::Starting::channels_more))]
     pub(crate) fn free(alloc: Global, channels: u32) -> Result<TargetWords, NoMemory>
         ensures { IfOk result (λ t. t ≡ free_channels channels) }
     {

@@ -1,5 +1,6 @@
 -- Worked cases, by computation.
-use Rattle.std.proofs.Common.{◌≡◌, refl, ℕ, [], ◌∷◌, ◌++◌}
+use Rattle.std.proofs.Common.{◌≡◌, refl, ap, ℕ, List, [], ◌∷◌, ◌++◌}
+use Rattle.std.proofs.lemmas.List.{append-nil}
 use Rattle.std.specs.Prelude.{codes}
 use Rattle.std.specs.Fmt.{decimal}
 use Rattle.sb_call.specs.declared.arguments.Arg.TheVariants.{Num, Str}
@@ -73,4 +74,6 @@ no_rule_is_told = refl
 
 rule_is_told : denial_line script (record { target = 0; thread = 1; place = 1; tag = HandleClose; verdict = verdict.Rule 4 Deny })
     ≡ codes "local tab " ++ decimal 1 ++ codes " " ++ decimal 1 ++ codes " " ++ codes "handle.close" ++ (codes " rule " ++ decimal 4) ++ codes "\n"
-rule_is_told = refl
+rule_is_told =
+    ap (λ (n : List ℕ). codes "local tab " ++ decimal 1 ++ codes " " ++ decimal 1 ++ codes " " ++ codes "handle.close" ++ (codes " rule " ++ n) ++ codes "\n")
+    (append-nil (decimal 4))

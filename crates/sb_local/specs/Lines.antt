@@ -3,16 +3,10 @@ use Rattle.std.specs.Prelude.{ℕ, List, ◌++◌, codes}
 use Rattle.std.specs.Fmt.{decimal}
 use Rattle.std.specs.List.{flat_map}
 use Rattle.sb_call.specs.CallWords.{call_word}
-use Rattle.sb_rule.specs.declared.verdicts.Verdict.{Verdict}
-use Rattle.sb_rule.specs.declared.verdicts.Verdict.TheVariants.{Rule, NoRule}
 use Rattle.sb_statements.specs.Scripts.{target_name}
 use Rattle.sb_statements.specs.declared.scripts.Script.{Script}
+use Rattle.sb_transcript.specs.Fields.{verdict_text}
 use Rattle.sb_local.specs.declared.denials.LocalDenial.{LocalDenial}
-
--- no rule, or the line of the rule that denied
-abbrev pub verdict_text : Verdict → List ℕ
-verdict_text NoRule = codes " norule"
-verdict_text (Rule line action) = codes " rule " ++ decimal line
 
 -- the thread and the place, between blanks
 abbrev pub place_text : ℕ → ℕ → List ℕ

@@ -2,26 +2,14 @@
 ghost use Rattle.std.specs.Prelude.{◌≡◌, ◌++◌, IfOk, OnOk, codes};
 ghost use Rattle.std.specs.Fmt.{decimal};
 ghost use Rattle.std.specs.List.{flat_map};
-ghost use Rattle.sb_local.specs.Lines.{denial_line, denial_lines, place_text, verdict_text};
+ghost use Rattle.sb_local.specs.Lines.{denial_line, denial_lines, place_text};
 
 use crate::denials::LocalDenial;
 use sb_base::{NoMemory, put_decimal};
 use sb_call::call_word;
-use sb_rule::Verdict;
 use sb_statements::Script;
+use sb_transcript::put_verdict;
 use std::alloc::Global;
-
-fn put_verdict(lines: &mut Vec<u8>, verdict: Verdict) -> Result<(), NoMemory>
-    ensures { OnOk result (lines.new.items ≡ lines.old.items ++ verdict_text verdict) }
-{
-    match verdict {
-        Verdict::NoRule => Ok(lines.extend_from_slice(b" norule")?),
-        Verdict::Rule { line, .. } => {
-            lines.extend_from_slice(b" rule ")?;
-            put_decimal(lines, u64::from(line))
-        }
-    }
-}
 
 fn put_place(lines: &mut Vec<u8>, thread: u32, place: u32) -> Result<(), NoMemory>
     ensures { OnOk result (lines.new.items ≡ lines.old.items ++ place_text thread place) }

@@ -7,6 +7,7 @@ use Rattle.sb_statements.specs.declared.schedules.Actor.TheVariants.{Worker, Thr
 use Rattle.sb_statements.specs.declared.scripts.TargetScript.{TargetScript}
 use Rattle.sb_shared.specs.Origins.{start_of}
 use Rattle.sb_shared.specs.Parts.{part_of}
+use Rattle.sb_shared.specs.Rule.{channel_stride, target_stride}
 use Rattle.sb_shared.specs.declared.views.Origin.{Origin}
 use Rattle.sb_shared.specs.declared.views.View.{View}
 
@@ -36,7 +37,7 @@ first_view key = record { key = key; parts = map (part_of (start_of key)) (all_a
 
 -- the word at a place: each state is free, and all else is 0
 abbrev pub first_word : List TargetScript → ℕ → ℕ
-first_word targets place = if nat_lt (place % 640 / 80) (channels_of (slice_get targets (place / 640))) && (place % 80 == 0) then 1 else 0
+first_word targets place = if nat_lt (place % target_stride / channel_stride) (channels_of (slice_get targets (place / target_stride))) && (place % channel_stride == 0) then 1 else 0
 
 -- the first n words
 abbrev pub AreFirst : List TargetScript → ℕ → List ℕ → Type 0

@@ -6,6 +6,7 @@ use Rattle.atomic_table.specs.Table.{State}
 use Rattle.sb_actor.specs.Moves.{at}
 use Rattle.sb_book.specs.Histories.{History}
 use Rattle.sb_statements.specs.Actors.{is_there}
+use Rattle.sb_statements.specs.Limits.{most_channels, most_targets}
 use Rattle.sb_statements.specs.declared.schedules.Actor.{Actor}
 use Rattle.sb_core.specs.Actors.{are_there}
 use Rattle.sb_core.specs.Kept.{IsWorld, IsRunning}
@@ -22,20 +23,32 @@ use Rattle.sb_shared.specs.declared.views.Part.{Part}
 use Rattle.sb_shared.specs.declared.views.TakenSeat.{TakenSeat}
 use Rattle.sb_shared.specs.declared.views.View.{View}
 
+-- the words of two cache lines
+abbrev pub line_pair : ℕ
+line_pair = 16
+
+-- from one channel of a target to the next: its 65 words, and unused ones up to the end of a pair of cache lines
+abbrev pub channel_stride : ℕ
+channel_stride = 5 * line_pair
+
+-- from one target to the next
+abbrev pub target_stride : ℕ
+target_stride = most_channels * channel_stride
+
 -- where word j of channel c of target t lies among the words of the table
 abbrev pub spot : ℕ → ℕ → ℕ → ℕ
-spot t c j = t * 640 + c * 80 + j
+spot t c j = t * target_stride + c * channel_stride + j
 
 -- the turn word
 abbrev pub turn_word : ℕ
-turn_word = 5120
+turn_word = most_targets * target_stride
 
 -- the stop word
 abbrev pub stop_word : ℕ
-stop_word = 5136
+stop_word = turn_word + line_pair
 
 abbrev pub word_count : ℕ
-word_count = 5152
+word_count = stop_word + line_pair
 
 -- 0 if nobody has the turn, else one more than the target of the worker that has it
 abbrev pub turn_number : Option ℕ → ℕ

@@ -1,2 +1,3 @@
 pub mod Bounds
-pub mod SoundLemmas
+pub mod PlacedLemmas
+mod SoundLemmas

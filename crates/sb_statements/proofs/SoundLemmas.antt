@@ -16,7 +16,7 @@ one_of_all p (y ∷ ys) zero x h e =
     rw (sym same) (and_parts (p y) (list_all p ys) h).0
 one_of_all p (y ∷ ys) (suc i) x h e = one_of_all p ys i x (and_parts (p y) (list_all p ys) h).1 e
 
-all_targets : (script : Script) → is_sound script ≡ true → list_all (is_target script.targets) script.targets ≡ true
+pub all_targets : (script : Script) → is_sound script ≡ true → list_all (is_target script.targets) script.targets ≡ true
 all_targets script h =
     let few = nat_le (length script.start) 4096 in
     let starts = list_all is_start script.start in
@@ -24,13 +24,13 @@ all_targets script h =
     let targets = and_parts (is_patience script.patience && few && starts) (are_targets script.targets) h in
     (and_parts (nat_le (length script.targets) 8 && names_differ script.targets) each targets.1).1
 
-all_threads : (targets : List TargetScript) (target : TargetScript) → is_target targets target ≡ true
+pub all_threads : (targets : List TargetScript) (target : TargetScript) → is_target targets target ≡ true
     → list_all (is_thread targets) target.threads ≡ true
 all_threads targets target h =
     let few = nat_le 1 target.channels && nat_le target.channels 8 && nat_le (length target.threads) 4 in
     (and_parts few (list_all (is_thread targets) target.threads) h).1
 
-all_statements : (targets : List TargetScript) (statements : List Statement) → is_thread targets statements ≡ true
+pub all_statements : (targets : List TargetScript) (statements : List Statement) → is_thread targets statements ≡ true
     → list_all (is_statement targets) statements ≡ true
 all_statements targets statements h =
     (and_parts (nat_le (length statements) 4096) (list_all (is_statement targets) statements) h).1

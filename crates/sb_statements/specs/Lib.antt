@@ -1,6 +1,7 @@
 pub mod Actors
 pub mod CleanTables
 pub mod Limits
+pub mod PlacedStatements
 pub mod Scripts
 pub mod SoundScripts
 pub mod Soundness

@@ -1,12 +1,12 @@
 // Which channels of a script are clean, found in one walk over its statements.
 ghost use Rattle.std.specs.Prelude.{◌≡◌, ◌&&◌, ◌==◌, ◌<◌, true, replicate};
-ghost use Rattle.std.specs.List.{list_any};
-ghost use Rattle.sb_statements.specs.CleanTables.{clean_at, ClearsWritten, IsCleanTable};
-ghost use Rattle.sb_statements.specs.Scripts.{writes_channel, threads_write};
+ghost use Rattle.sb_statements.specs.CleanTables.{clean_at, ClearsWritten, IsCleanTable, some_writes};
+ghost use Rattle.sb_statements.specs.Scripts.{writes_channel};
 
 use crate::limits::{MAX_CHANNELS, MAX_TARGETS};
-use crate::scripts::{Script, TargetScript};
-use crate::statements::{Statement, Statements};
+use crate::placed_statements::StatementCursor;
+use crate::sound_scripts::SoundScript;
+use crate::statements::Statement;
 use std::marker::Model;
 
 /// For each of 8 targets and each of its 8 channels whether the channel is clean.
@@ -65,37 +65,24 @@ impl CleanTable {
         }
     }
 
-    fn note_statements(&mut self, statements: &[Statement])
-        ensures { ClearsWritten (λ t c. list_any (writes_channel t c) statements.now) self.old self.new }
+    fn note_all(&mut self, statements: StatementCursor<'_>)
+        ensures { ClearsWritten (some_writes statements.entry) self.old self.new }
     {
-        for statement in statements {
-            self.note(statement);
-        }
-    }
-
-    fn note_threads(&mut self, threads: &[Statements])
-        ensures { ClearsWritten (λ t c. threads_write t c threads.now) self.old self.new }
-    {
-        for statements in threads {
-            self.note_statements(statements);
-        }
-    }
-
-    fn note_targets(&mut self, targets: &[TargetScript])
-        ensures { ClearsWritten (λ t c. list_any (λ target. threads_write t c target.threads) targets.now) self.old self.new }
-    {
-        for target in targets {
-            self.note_threads(&target.threads);
+        let mut rest = statements;
+        while let Some((first, later)) = rest.split_first() {
+            self.note(first.statement);
+            rest = later;
         }
     }
 }
 
 /// Which channels of a script are clean: the answers of `clean` for all channels of 8 targets, in one walk over the
 /// statements.
-pub fn clean_table(script: &Script) -> CleanTable
+#[tactic(auto, using(crate::proofs::PlacedLemmas::placed_writes))]
+pub fn clean_table(script: &SoundScript) -> CleanTable
     ensures { IsCleanTable script.now result }
 {
     let mut table = CleanTable::all();
-    table.note_targets(&script.targets);
+    table.note_all(script.statements());
     table
 }

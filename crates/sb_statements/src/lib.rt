@@ -5,6 +5,7 @@
 mod clean_tables;
 mod laws;
 mod limits;
+mod placed_statements;
 mod results;
 mod schedules;
 mod scripts;
@@ -13,11 +14,12 @@ mod soundness;
 mod statements;
 
 pub use clean_tables::{CleanTable, clean_table};
-pub use laws::sound_parts;
+pub use laws::{placed_statements_are_sound, sound_parts};
 pub use limits::{
     LAST_PLACE, MAX_CHANNELS, MAX_PATIENCE, MAX_START_LINES, MAX_STATEMENTS, MAX_TARGETS,
     MAX_THREADS,
 };
+pub use placed_statements::{PlacedStatement, StatementCursor};
 pub use results::{CallResult, StmtResult};
 pub use schedules::{Actor, Schedule, Steps, is_there};
 pub use scripts::{Script, StartLine, StartLines, TargetScript, Targets, clean};

@@ -6,6 +6,7 @@ ghost use Rattle.sb_statements.specs.Scripts.{writes_channel, target_name, threa
 use crate::statements::{Statement, Statements, Threads};
 use sb_base::{Items, Wide};
 use sb_call::ShortName;
+use std::alloc::AllocError;
 
 /// An object that is there at the start.
 #[derive(PartialEq)]
@@ -35,6 +36,34 @@ impl Drop for StartLine {
                 initial: _,
             } => {}
         }
+    }
+}
+
+impl Clone for StartLine {
+    ghost is_clone = { λ line clone. clone ≡ line };
+
+    fn clone(&self) -> Result<StartLine, AllocError> {
+        Ok(match self {
+            StartLine::Dir { name } => StartLine::Dir {
+                name: name.clone()?,
+            },
+            StartLine::File { name, attributes } => StartLine::File {
+                name: name.clone()?,
+                attributes: *attributes,
+            },
+            StartLine::Key { name } => StartLine::Key {
+                name: name.clone()?,
+            },
+            StartLine::Event {
+                name,
+                kind,
+                initial,
+            } => StartLine::Event {
+                name: name.clone()?,
+                kind: *kind,
+                initial: *initial,
+            },
+        })
     }
 }
 

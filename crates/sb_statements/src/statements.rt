@@ -5,6 +5,7 @@ ghost use Rattle.sb_statements.specs.Words.{place_of};
 
 use sb_base::Items;
 use sb_call::{Args, CallTag};
+use std::alloc::AllocError;
 
 /// How many words a channel has: its state, and the 64 words of a block.
 pub const WORDS_OF_CHANNEL: usize = 65;
@@ -86,6 +87,54 @@ impl Drop for Statement {
                 most: _,
             } => {}
         }
+    }
+}
+
+impl Clone for Statement {
+    ghost is_clone = { λ statement clone. clone ≡ statement };
+
+    fn clone(&self) -> Result<Statement, AllocError> {
+        Ok(match self {
+            Statement::Call { tag, args } => Statement::Call {
+                tag: *tag,
+                args: args.clone()?,
+            },
+            Statement::Store {
+                target,
+                word,
+                value,
+            } => Statement::Store {
+                target: *target,
+                word: *word,
+                value: *value,
+            },
+            Statement::Exchange {
+                target,
+                word,
+                from,
+                to,
+            } => Statement::Exchange {
+                target: *target,
+                word: *word,
+                from: *from,
+                to: *to,
+            },
+            Statement::Load { target, word } => Statement::Load {
+                target: *target,
+                word: *word,
+            },
+            Statement::Wait {
+                target,
+                word,
+                value,
+                most,
+            } => Statement::Wait {
+                target: *target,
+                word: *word,
+                value: *value,
+                most: *most,
+            },
+        })
     }
 }
 

@@ -1,8 +1,5 @@
 use Rattle.std.proofs.Common.{◌≡◌, ◌∙◌, ap, subst, IfOk}
-use Rattle.sb_core.specs.Drains.{drained}
-use Rattle.sb_core.specs.Reports.{report_of}
-use Rattle.sb_core.specs.Shared.{SharedAt}
-use Rattle.sb_core.specs.Worlds.{WorldAt}
+use Rattle.sb_core.proofs.Names.{drained, report_of, SharedAt, WorldAt}
 use Rattle.sb_core.proofs.finishes.finish.Goals as goal
 
 pub returns : goal.returns

@@ -1,4 +1,4 @@
-use Rattle.sb_core.proofs.Finishing.{finishing_from}
+use Rattle.sb_core.proofs.Ending.{finishing_from}
 use Rattle.sb_core.proofs.finishes.world_of.Goals as goal
 
 pub invariant_of-result : goal.invariant_of-result

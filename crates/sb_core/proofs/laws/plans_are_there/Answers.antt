@@ -1,5 +1,5 @@
 use Rattle.sb_core.proofs.Running.{plans_are_there}
-use Rattle.sb_core.proofs.There.{as_many, targets_there}
+use Rattle.sb_core.proofs.Existence.{as_many, targets_there}
 use Rattle.sb_core.proofs.laws.plans_are_there.Goals as goal
 
 pub returns-clause-targets : goal.returns-clause-targets

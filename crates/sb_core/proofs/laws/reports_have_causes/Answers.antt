@@ -1,4 +1,4 @@
-use Rattle.sb_core.proofs.Causing.{runs_are_caused, worlds_are_caused}
+use Rattle.sb_core.proofs.Telling.{runs_are_caused, worlds_are_caused}
 use Rattle.sb_core.proofs.laws.reports_have_causes.Goals as goal
 
 pub returns-clause-worlds : goal.returns-clause-worlds

@@ -1,5 +1,5 @@
 use Rattle.sb_core.proofs.Folding.{orders_are_schedules, steps_append}
-use Rattle.sb_core.proofs.Passing.{beginnings_are_steps, drains_are_steps, rounds_are_steps, workers_are_there}
+use Rattle.sb_core.proofs.Beginning.{beginnings_are_steps, drains_are_steps, rounds_are_steps, workers_are_there}
 use Rattle.sb_core.proofs.laws.steps_are_folds.Goals as goal
 
 pub returns-clause-steps : goal.returns-clause-steps

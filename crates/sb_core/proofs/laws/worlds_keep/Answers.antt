@@ -1,4 +1,4 @@
-use Rattle.sb_core.proofs.Draining.{drains_keep}
+use Rattle.sb_core.proofs.Beginning.{drains_keep}
 use Rattle.sb_core.proofs.Running.{step_keeps}
 use Rattle.sb_core.proofs.Starting.{starts_keep}
 use Rattle.sb_core.proofs.laws.worlds_keep.Goals as goal

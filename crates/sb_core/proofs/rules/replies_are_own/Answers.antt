@@ -1,33 +1,12 @@
-use Rattle.sb_core.proofs.Present.{replies_are_own, runs_reply_own}
-use Rattle.sb_core.proofs.ViewSteps.{RuleLaws}
+use Rattle.sb_core.proofs.OwnReplies.{replies_are_own, runs_reply_own}
 use Rattle.sb_core.proofs.rules.replies_are_own.Goals as goal
 
 pub returns-clause-steps : goal.returns-clause-steps
 returns-clause-steps c =
-    let laws : RuleLaws = record {
-      starts = c.starts_in_rule.ensures;
-      thread_keeps = c.thread_keeps_rule.ensures;
-      worker_keeps = c.worker_keeps_rule.ensures;
-      stray_keeps = c.stray_keeps_rule.ensures;
-      worker_follows = c.worker_follows.ensures;
-      thread_follows = c.thread_follows.ensures;
-      gives_up = c.clean_channels_are_kept.ensures;
-      blocks = c.blocks_are_whole.ensures;
-    } in
-    replies_are_own laws c.sound_parts.ensures.targets c.sound_parts.ensures.statements c.answers_keep_histories.ensures
+    replies_are_own c.rule_laws.ensures c.sound_parts.ensures.targets c.sound_parts.ensures.statements c.answers_keep_histories.ensures
     c.replies_come_back.ensures c.answers_are_short.ensures
 
 pub returns-clause-runs : goal.returns-clause-runs
 returns-clause-runs c =
-    let laws : RuleLaws = record {
-      starts = c.starts_in_rule.ensures;
-      thread_keeps = c.thread_keeps_rule.ensures;
-      worker_keeps = c.worker_keeps_rule.ensures;
-      stray_keeps = c.stray_keeps_rule.ensures;
-      worker_follows = c.worker_follows.ensures;
-      thread_follows = c.thread_follows.ensures;
-      gives_up = c.clean_channels_are_kept.ensures;
-      blocks = c.blocks_are_whole.ensures;
-    } in
-    runs_reply_own laws c.sound_parts.ensures.targets c.sound_parts.ensures.statements c.answers_keep_histories.ensures
+    runs_reply_own c.rule_laws.ensures c.sound_parts.ensures.targets c.sound_parts.ensures.statements c.answers_keep_histories.ensures
     c.replies_come_back.ensures c.answers_are_short.ensures

@@ -1,6 +1,5 @@
 use Rattle.std.proofs.Common.{subst, sym}
-use Rattle.sb_core.specs.Fits.{IsOwnSoFar}
-use Rattle.sb_core.specs.Rules.{AreInRule}
+use Rattle.sb_core.proofs.Names.{AreInRule, IsOwnSoFar}
 use Rattle.sb_core.proofs.rules.worlds_of_scripts_keep_rule.Goals as goal
 
 pub returns-clause-rule : goal.returns-clause-rule

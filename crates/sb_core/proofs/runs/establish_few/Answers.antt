@@ -1,4 +1,4 @@
-use Rattle.sb_core.proofs.Draining.{few_results}
+use Rattle.sb_core.proofs.Beginning.{few_results}
 use Rattle.sb_core.proofs.runs.establish_few.Goals as goal
 
 pub returns : goal.returns

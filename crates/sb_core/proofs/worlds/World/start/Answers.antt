@@ -1,10 +1,6 @@
 use Rattle.std.proofs.Common.{◌≡◌, ◌∙◌, None, ap, length, rules, subst, sym}
-use Rattle.sb_book.specs.Histories.{new_history, setting_of}
-use Rattle.sb_book.specs.Readiness.{IsReady}
+use Rattle.sb_core.proofs.Names.{first_words, first_workers, IsReady, IsWorld, new_history, Script, setting_of, start_threads, start_world, WorldAt}
 use Rattle.sb_book.specs.ReadyScripts.{Ready}
-use Rattle.sb_statements.specs.declared.scripts.Script.{Script}
-use Rattle.sb_core.specs.Kept.{IsWorld}
-use Rattle.sb_core.specs.Worlds.{WorldAt, first_words, first_workers, start_threads, start_world}
 use Rattle.sb_core.proofs.Starting.{starts_world}
 use Rattle.sb_core.proofs.worlds.World.start.Goals as goal
 

@@ -1,9 +1,5 @@
 use Rattle.std.proofs.Common.{◌≡◌, subst, sym, true}
-use Rattle.sb_statements.specs.Actors.{is_there}
-use Rattle.sb_statements.specs.declared.schedules.Actor.TheVariants.{Thread, Worker}
-use Rattle.sb_core.specs.Kept.{IsRunning}
-use Rattle.sb_core.specs.OfScripts.{IsOfScript}
-use Rattle.sb_core.specs.Worlds.{step}
+use Rattle.sb_core.proofs.Names.{is_there, IsOfScript, IsRunning, step, Thread, Worker}
 use Rattle.sb_core.proofs.Belonging.{of_step}
 use Rattle.sb_core.proofs.Running.{step_keeps, worker_is_there}
 use Rattle.sb_core.proofs.worlds.World.step.Goals as goal

@@ -1,10 +1,8 @@
 use Rattle.std.proofs.Common.{◌∙◌, ap, subst, sym, []}
-use Rattle.sb_statements.specs.declared.schedules.Actor.TheVariants.{Thread}
-use Rattle.sb_core.specs.Kept.{IsRunning, IsWorld}
-use Rattle.sb_core.specs.Worlds.{WorldAt, step}
+use Rattle.sb_core.proofs.Names.{IsRunning, IsWorld, step, Thread, WorldAt}
 use Rattle.sb_core.proofs.Running.{thread_is_there}
 use Rattle.sb_core.proofs.Sets.{at_place}
-use Rattle.sb_core.proofs.There.{listed, thread_there}
+use Rattle.sb_core.proofs.Existence.{listed, thread_there}
 use Rattle.sb_core.proofs.ThreadKeeping.{has_room, room_at, thread_at, thread_book, thread_keeps, thread_left}
 use Rattle.sb_core.proofs.worlds.World.thread_step.Goals as goal
 

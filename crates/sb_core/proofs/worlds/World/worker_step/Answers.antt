@@ -1,7 +1,6 @@
 use Rattle.std.proofs.Common.{◌≡◌, ◌<◌, ◌∙◌, ap, length, subst, sym}
-use Rattle.sb_core.specs.Kept.{IsWorld}
-use Rattle.sb_core.specs.Worlds.{WorldAt, no_worker, worker_step}
-use Rattle.sb_core.proofs.Keeping.{worker_keeps, worker_left, worker_setting, worker_stays}
+use Rattle.sb_core.proofs.Names.{IsWorld, no_worker, worker_step, WorldAt}
+use Rattle.sb_core.proofs.WorkerKeeping.{worker_keeps, worker_left, worker_setting, worker_stays}
 use Rattle.sb_core.proofs.Beginning.{after_error}
 use Rattle.sb_core.proofs.Sets.{at_place}
 use Rattle.sb_core.proofs.worlds.World.worker_step.Goals as goal

@@ -1,27 +1,11 @@
 -- A step of a worker keeps what every world keeps.
-use Rattle.std.proofs.Common.{◌≡◌, ◌≢◌, ◌∙◌, refl, ap, subst, sym, ℕ, ◌+◌, ◌*◌, ◌<◌, ◌≤◌, Bool, true, false, ◌==◌, if◌then◌else◌, List, [], ◌∷◌, ◌++◌, length, length-append, length-set, set, get_or, get_or-set_same, get_or-set_other, Option, None, Some, lit<, arith}
-use Rattle.std.proofs.lemmas.Bool.Decides.{nat_tests}
+use Rattle.std.proofs.Common.{◌≡◌, ◌≢◌, ◌∙◌, refl, ap, subst, sym, ℕ, ◌+◌, ◌*◌, ◌<◌, ◌≤◌, Bool, true, false, ◌==◌, if◌then◌else◌, List, [], ◌∷◌, ◌++◌, length, length-append, length-set, set, get_or, get_or-set_same, get_or-set_other, Option, None, Some, lit<, arith, ◌%◌}
 use Rattle.std.proofs.lemmas.Nat.{mod_below}
-use Rattle.std.specs.Prelude.{nat_lt, slice_index}
-use native.Mathlib.Decide.{ℕ_discrete}
+use Rattle.sb_core.proofs.Names.{Ack, after_reply, Answer, channels_at, Copied, copied, Copy, Count, Decision, End, exchanged, Give, has_turn, is_copy, is_end, is_holder, IsReplyTo, IsRunOf, IsSoundStage, IsWorkerOf, IsWorld, loaded, Look, look_next, mark_of, nat_lt, nat_tests, no_worker, offset_of, on_worker, place_of, Refused, reply_of, reply_words, run_at, SharedAt, slice_index, Space, stored, Take, target_decision, threads_at, Word, words_of, worker_after, worker_at, worker_goes, worker_plan, worker_step, worker_step_of, WorkerAt, WorkerStage, WorkerStep, WorldAt, ℕ_discrete}
 use Rattle.sb_actor.specs.Acts.{ready}
-use Rattle.sb_actor.specs.Ranges.{IsReplyTo, IsSoundStage}
-use Rattle.sb_actor.specs.WorkerStages.{WorkerStage, WorkerAt, Look, Count, End, Copy, Take, Answer, Give, Reply, Ack}
-use Rattle.sb_actor.specs.WorkerTable.{worker_plan, worker_after, look_next, after_reply}
-use Rattle.sb_block.specs.Copies.{Copied, copied, is_copy, is_end, mark_of}
-use Rattle.sb_block.specs.Packing.{offset_of}
-use Rattle.sb_book.specs.Histories.{reply_of, target_decision}
-use Rattle.sb_book.specs.declared.decisions.Decision.{Decision}
-use Rattle.sb_book.specs.declared.decisions.Decision.TheVariants.{Refused}
-use Rattle.sb_kernel.specs.Namespaces.{Space}
-use Rattle.sb_statements.specs.declared.statements.Word.{Word}
-use Rattle.sb_core.specs.Kept.{IsRunOf, IsWorkerOf, IsWorld, channels_at, has_turn, is_holder}
-use Rattle.sb_core.specs.Shared.{SharedAt, WorkerStep, on_worker, worker_step_of}
-use Rattle.sb_core.specs.Words.{exchanged, loaded, stored, words_of}
-use Rattle.sb_statements.specs.Words.{place_of}
-use Rattle.sb_core.specs.Worlds.{WorldAt, no_worker, run_at, threads_at, worker_at, worker_goes, worker_step}
+use Rattle.sb_actor.specs.WorkerStages.{Reply}
 use Rattle.sb_core.proofs.Sets.{set_same, sizes_set}
-use Rattle.sb_core.proofs.There.{its_own, words_listed}
+use Rattle.sb_core.proofs.Existence.{its_own, words_listed, run_kept, worker_kept}
 use Rattle.sb_core.proofs.Numbers.{apart, is_same, none_some, not_same, self_same, some_same}
 
 -- What a step of a target's worker leaves that the world needs: the setting and the sizes of the words as they were, the worker at one of its
@@ -58,17 +42,7 @@ module _ (w : WorldAt) (t : ℕ) (y : WorkerAt) (s : SharedAt) (kept : IsWorld w
   }
 
   other : (u : ℕ) → u < length w.workers → u ≢ t → IsWorkerOf (after w t y s) u (worker_at w u)
-  other u l n =
-      let x = kept.workers u l in
-      record {
-        its_target = x.its_target;
-        its_channels = x.its_channels ∙ sym (channels_stay u);
-        within = x.within;
-        few = x.few;
-        sound = x.sound;
-        sized = m.sizes u ∙ x.sized;
-        turn = x.turn ∙ sym (m.others u n);
-      }
+  other u l n = worker_kept w (after w t y s) u (worker_at w u) (channels_stay u) (m.sizes u) (m.others u n) (kept.workers u l)
 
   each : (u : ℕ) → u < length w.workers → Dec (u ≡ t) → IsWorkerOf (after w t y s) u (get_or (set w.workers t y) u no_worker)
   each u l (yes e) =
@@ -78,16 +52,7 @@ module _ (w : WorldAt) (t : ℕ) (y : WorkerAt) (s : SharedAt) (kept : IsWorld w
       subst (λ z. IsWorkerOf (after w t y s) u z) (sym (get_or-set_other w.workers t u y no_worker n)) (other u l n)
 
   run : (u k : ℕ) → k < length (threads_at w u) → IsRunOf (after w t y s) u k (run_at w u k)
-  run u k l =
-      let x = kept.threads u k l in
-      record {
-        its_target = x.its_target;
-        its_number = x.its_number;
-        its_channels = x.its_channels ∙ sym (channels_stay u);
-        short = x.short;
-        sound = x.sound;
-        counted = x.counted;
-      }
+  run u k l = run_kept w (after w t y s) u k (run_at w u k) (channels_stay u) (kept.threads u k l)
 
   pub moved : IsWorld (after w t y s)
   moved =
@@ -134,37 +99,32 @@ module _ (w : WorldAt) (t channels c : ℕ) (kept : IsWorld w) (there : t < leng
   abbrev at_this : WorkerStage → WorkerAt
   at_this stage = record { target = t; channels = channels; channel = c; stage = stage }
 
-  -- the worker goes on, and what all share stays
-  stays : (stage : WorkerStage) → IsSoundStage stage → has_turn stage ≡ is_holder w.shared.turn t → Moves w t (at_this stage) w.shared
-  stays stage sound turn = record {
-    setting = refl;
-    count = refl;
-    sizes = λ u. refl;
+  -- the worker at one of its channels, with what all share after the step
+  at_channel : (d : ℕ) (stage : WorkerStage) (s : SharedAt) → d < channels → IsSoundStage stage → s.book.setting ≡ w.shared.book.setting → length s.words ≡ length w.shared.words
+      → ((u : ℕ) → length (words_of s.words u) ≡ length (words_of w.shared.words u)) → has_turn stage ≡ is_holder s.turn t
+      → ((u : ℕ) → u ≢ t → is_holder s.turn u ≡ is_holder w.shared.turn u) → ((u : ℕ) → s.turn ≡ Some u → u < length w.workers)
+      → Moves w t (record { target = t; channels = channels; channel = d; stage = stage }) s
+  at_channel d stage s inside sound setting count sizes turn others holder = record {
+    setting = setting;
+    count = count;
+    sizes = sizes;
     its_target = refl;
     its_channels = its;
-    within = within;
+    within = inside;
     few = few;
     sound = sound;
     turn = turn;
-    others = λ u n. refl;
-    holder = kept.holder;
+    others = others;
+    holder = holder;
   }
+
+  -- the worker goes on, and what all share stays
+  stays : (stage : WorkerStage) → IsSoundStage stage → has_turn stage ≡ is_holder w.shared.turn t → Moves w t (at_this stage) w.shared
+  stays stage sound turn = at_channel c stage w.shared within sound refl refl (λ u. refl) turn (λ u n. refl) kept.holder
 
   -- the worker looks at the next channel
   looks_on : false ≡ is_holder w.shared.turn t → Moves w t (look_next (at_this Look)) w.shared
-  looks_on turn = record {
-    setting = refl;
-    count = refl;
-    sizes = λ u. refl;
-    its_target = refl;
-    its_channels = its;
-    within = mod_below (c + 1) channels (omega (arith, within));
-    few = few;
-    sound = tt;
-    turn = turn;
-    others = λ u n. refl;
-    holder = kept.holder;
-  }
+  looks_on turn = at_channel ((c + 1) % channels) Look w.shared (mod_below (c + 1) channels (omega (arith, within))) tt refl refl (λ u. refl) turn (λ u n. refl) kept.holder
 
   -- the words of the target change, and keep their number
   writes : (y : WorkerAt) (new : List ℕ) → Moves w t y w.shared → length new ≡ length (words_of w.shared.words t)
@@ -226,35 +186,15 @@ module _ (w : WorldAt) (t channels c : ℕ) (kept : IsWorld w) (there : t < leng
   took taken rule None e turn =
       subst (λ (z : Option ℕ). Moves w t (worker_after (at_this (Take taken)) (on_worker (record w.shared { turn = z }) t (at_this (Take taken)) (worker_plan (at_this (Take taken)))).seen)
       (on_worker (record w.shared { turn = z }) t (at_this (Take taken)) (worker_plan (at_this (Take taken)))).shared)
-      (sym e) (record {
-        setting = refl;
-        count = refl;
-        sizes = λ u. refl;
-        its_target = refl;
-        its_channels = its;
-        within = within;
-        few = few;
-        sound = rule;
-        turn = sym (self_same t);
-        others = λ u n. apart t u n ∙ ap (λ (z : Option ℕ). is_holder z u) (sym e);
-        holder = λ u f. subst (λ z. z < length w.workers) (some_same t u f) there;
-      })
+      (sym e)
+      (at_channel c (Answer taken) (record w.shared { turn = Some t }) within rule refl refl (λ u. refl) (sym (self_same t))
+      (λ u n. apart t u n ∙ ap (λ (z : Option ℕ). is_holder z u) (sym e)) (λ u f. subst (λ z. z < length w.workers) (some_same t u f) there))
   took taken rule (Some holder) e turn =
       subst (λ (z : Option ℕ). Moves w t (worker_after (at_this (Take taken)) (on_worker (record w.shared { turn = z }) t (at_this (Take taken)) (worker_plan (at_this (Take taken)))).seen)
       (on_worker (record w.shared { turn = z }) t (at_this (Take taken)) (worker_plan (at_this (Take taken)))).shared)
-      (sym e) (record {
-        setting = refl;
-        count = refl;
-        sizes = λ u. refl;
-        its_target = refl;
-        its_channels = its;
-        within = within;
-        few = few;
-        sound = rule;
-        turn = turn ∙ ap (λ (z : Option ℕ). is_holder z t) e;
-        others = λ u n. ap (λ (z : Option ℕ). is_holder z u) (sym e);
-        holder = λ u f. kept.holder u (e ∙ f);
-      })
+      (sym e)
+      (at_channel c (Take taken) (record w.shared { turn = Some holder }) within rule refl refl (λ u. refl) (turn ∙ ap (λ (z : Option ℕ). is_holder z t) e)
+      (λ u n. ap (λ (z : Option ℕ). is_holder z u) (sym e)) (λ u f. kept.holder u (e ∙ f)))
 
   -- the holder alone has the turn
   alone : (turn : Option ℕ) → w.shared.turn ≡ turn → true ≡ is_holder turn t → (u : ℕ) → u ≢ t → is_holder None u ≡ is_holder turn u
@@ -265,36 +205,17 @@ module _ (w : WorldAt) (t channels c : ℕ) (kept : IsWorld w) (there : t < leng
 
   gave : (taken : Copied) (reply : List ℕ) → IsReplyTo taken reply → true ≡ is_holder w.shared.turn t
       → Moves w t (at_this (Reply taken reply 0)) (record w.shared { turn = None })
-  gave taken reply bears turn = record {
-    setting = refl;
-    count = refl;
-    sizes = λ u. refl;
-    its_target = refl;
-    its_channels = its;
-    within = within;
-    few = few;
-    sound = (lit< tt, bears);
-    turn = refl;
-    others = λ u n. alone w.shared.turn refl turn u n;
-    holder = λ u f. absurd (none_some u f);
-  }
+  gave taken reply bears turn =
+      at_channel c (Reply taken reply 0) (record w.shared { turn = None }) within (lit< tt, bears) refl refl (λ u. refl) refl (λ u n. alone w.shared.turn refl turn u n)
+      (λ u f. absurd (none_some u f))
 
   marks : (taken : Copied) → true ≡ is_holder w.shared.turn t
       → Moves w t (worker_after (at_this (Answer taken)) (on_worker w.shared t (at_this (Answer taken)) (worker_plan (at_this (Answer taken)))).seen)
       (on_worker w.shared t (at_this (Answer taken)) (worker_plan (at_this (Answer taken)))).shared
-  marks taken turn = record {
-    setting = refl;
-    count = refl;
-    sizes = λ u. refl;
-    its_target = refl;
-    its_channels = its;
-    within = within;
-    few = few;
-    sound = record { size = refl; mark = replies_bear w.shared.book.space t (mark_of taken) (target_decision w.shared.book t taken) };
-    turn = turn;
-    others = λ u n. refl;
-    holder = kept.holder;
-  }
+  marks taken turn =
+      at_channel c (Give taken (reply_words (reply_of w.shared.book.space t (mark_of taken) (target_decision w.shared.book t taken))))
+      (on_worker w.shared t (at_this (Answer taken)) (worker_plan (at_this (Answer taken)))).shared within
+      (record { size = refl; mark = replies_bear w.shared.book.space t (mark_of taken) (target_decision w.shared.book t taken) }) refl refl (λ u. refl) turn (λ u n. refl) kept.holder
 
   -- each row
   pub step_moves : (stage : WorkerStage) → IsSoundStage stage → has_turn stage ≡ is_holder w.shared.turn t

@@ -1,27 +1,15 @@
 -- The target, the channel and the word that the next step of an actor names are there, each below its own bound.
-use Rattle.std.proofs.Common.{◌≡◌, ◌∙◌, refl, ap, subst, sym, ℕ, zero, suc, ◌+◌, ◌*◌, ◌<◌, ◌≤◌, true, List, [], ◌∷◌, length, map, get_or, Option, None, Some, IfSome, slice_get, lit≤, arith}
-use Rattle.std.proofs.lemmas.Bool.{and_parts}
-use Rattle.std.proofs.lemmas.Bool.Decides.{nat_tests}
-use Rattle.std.specs.Prelude.{nat_lt, nat_le, slice_index}
-use Rattle.sb_actor.specs.Places.{statement_at, threads_of, or_none}
-use Rattle.sb_actor.specs.Ranges.{IsSoundStage, IsSoundThreadStage}
-use Rattle.sb_actor.specs.ThreadStages.{ThreadStage, ThreadAt}
+use Rattle.std.proofs.Common.{◌≡◌, ◌∙◌, refl, ap, subst, sym, ℕ, zero, suc, ◌+◌, ◌*◌, ◌<◌, ◌≤◌, true, List, [], ◌∷◌, length, map, get_or, Option, None, Some, IfSome, slice_get, lit≤, arith, get_or-set_same}
+use Rattle.sb_core.proofs.Names.{Ack, and_parts, channels_at, channels_of, Copy, Count, End, has_units, has_word, HasTarget, is_holder, is_patience, is_sound, is_statement, IsActThere, IsRunning, IsRunOf, IsSoundStage, IsSoundThreadStage, IsWordThere, IsWorkerOf, IsWorld, length-map, list_all, Look, nat_le, nat_lt, nat_tests, no_worker, on_worker, or_none, run_at, RunAt, Script, script_has_units, SharedAt, slice_index, SoundStatements, Statement, statement_at, statement_has_units, stray_row, target_has_units, TargetScript, thread_has_units, thread_plan, ThreadAt, threads_at, threads_of, ThreadStage, Word, words_of, worker_after, worker_at, worker_goes, worker_plan, worker_step, WorkerAt, WorkerStage, WorldAt}
 use Rattle.sb_actor.specs.ThreadStages as thread
-use Rattle.sb_actor.specs.ThreadTable.{stray_row, thread_plan}
-use Rattle.sb_actor.specs.WorkerStages.{WorkerStage, WorkerAt, Look, Count, End, Copy, Reply, Ack}
-use Rattle.sb_actor.specs.WorkerTable.{worker_plan}
-use Rattle.sb_statements.specs.Soundness.{SoundStatements, channels_of, is_patience, is_sound, is_statement, has_word}
-use Rattle.sb_statements.specs.declared.scripts.Script.{Script}
-use Rattle.sb_statements.specs.declared.scripts.TargetScript.{TargetScript}
-use Rattle.sb_statements.specs.declared.statements.Statement.{Statement}
+use Rattle.sb_actor.specs.WorkerStages.{Reply}
 use Rattle.sb_statements.specs.declared.statements.Statement.TheVariants as statement
-use Rattle.sb_statements.specs.declared.statements.Word.{Word}
-use Rattle.sb_core.specs.Kept.{IsRunning, IsWorld, channels_at}
-use Rattle.sb_core.specs.Laws.{HasTarget}
-use Rattle.sb_core.specs.Shared.{IsActThere}
-use Rattle.sb_core.specs.Words.{IsWordThere, words_of}
 use Rattle.sb_core.proofs.Bounds.{ready_sound}
-use Rattle.sb_core.specs.Worlds.{WorldAt, run_at, threads_at, worker_at}
+use Rattle.sb_call.specs.declared.arguments.Arg.{Arg}
+use Rattle.sb_call.specs.declared.tags.CallTag.{CallTag}
+use Rattle.sb_statements.specs.declared.statements.Statement.TheVariants.{Call}
+use Rattle.sb_core.proofs.Sets.{one_of_all}
+use Rattle.sb_core.proofs.Numbers.{none_some}
 
 inside : (c channels j n : ℕ) → c < channels → j ≤ 64 → n ≡ channels * 65 → c * 65 + j < n
 inside c channels j n h l e = omega arith
@@ -54,6 +42,17 @@ module _ (w : WorldAt) (t : ℕ) (kept : IsWorld w) (there : t < length w.worker
   pub its_own : worker_at w t ≡ record (worker_at w t) { target = t }
   its_own = ap (λ z. record (worker_at w t) { target = z }) (kept.workers t there).its_target
 
+  -- what holds of its step, by the worker of its place
+  pub of_own : (P : WorkerAt → WorkerAt → SharedAt → Type 0)
+      → P (record (worker_at w t) { target = t }) (worker_after (record (worker_at w t) { target = t }) (on_worker w.shared t (record (worker_at w t) { target = t }) (worker_plan (record (worker_at w t) { target = t }))).seen)
+      (on_worker w.shared t (record (worker_at w t) { target = t }) (worker_plan (record (worker_at w t) { target = t }))).shared
+      → P (worker_at w t) (worker_at (worker_step w t) t) (worker_step w t).shared
+  of_own P h =
+      let x = worker_at w t in
+      subst (λ (z : WorkerAt). P z (worker_at (worker_goes w t z (on_worker w.shared t z (worker_plan z))) t) (on_worker w.shared t z (worker_plan z)).shared) (sym its_own)
+      (subst (λ (y : WorkerAt). P (record x { target = t }) y (on_worker w.shared t (record x { target = t }) (worker_plan (record x { target = t }))).shared)
+      (sym (get_or-set_same w.workers t _ no_worker there)) h)
+
   pub worker_there : IsActThere w.shared.words (worker_plan (worker_at w t))
   worker_there =
       let x = kept.workers t there in
@@ -66,14 +65,37 @@ module _ (w : WorldAt) (t : ℕ) (kept : IsWorld w) (there : t < length w.worker
   pub worker_policy : t < length w.shared.book.setting.policies
   worker_policy = let e = kept.policies in omega (arith, e, there)
 
+-- a thread and a worker keep what they have in a world with the same channels, sizes and turn
+pub run_kept : (w v : WorldAt) (t k : ℕ) (x : RunAt) → channels_at v t ≡ channels_at w t → IsRunOf w t k x → IsRunOf v t k x
+run_kept w v t k x same h =
+    record { its_target = h.its_target; its_number = h.its_number; its_channels = h.its_channels ∙ sym same; short = h.short; sound = h.sound; counted = h.counted }
+
+pub worker_kept : (w v : WorldAt) (t : ℕ) (x : WorkerAt) → channels_at v t ≡ channels_at w t → length (words_of v.shared.words t) ≡ length (words_of w.shared.words t)
+    → is_holder v.shared.turn t ≡ is_holder w.shared.turn t → IsWorkerOf w t x → IsWorkerOf v t x
+worker_kept w v t x same size turn h = record {
+  its_target = h.its_target;
+  its_channels = h.its_channels ∙ sym same;
+  within = h.within;
+  few = h.few;
+  sound = h.sound;
+  sized = size ∙ h.sized;
+  turn = h.turn ∙ sym turn;
+}
+
 -- how many channels a target has, by the list of them
 pub channels_from : (targets : List TargetScript) (t : ℕ) → slice_index (map (λ target. target.channels) targets) t ≡ channels_of (slice_get targets t)
 channels_from [] t = refl
 channels_from (target ∷ targets) zero = refl
 channels_from (target ∷ targets) (suc t) = channels_from targets t
 
+-- and how many words
+pub wanted_at : (targets : List TargetScript) (t : ℕ) → get_or (map (λ (target : TargetScript). target.channels * 65) targets) t 0 ≡ channels_of (slice_get targets t) * 65
+wanted_at [] t = refl
+wanted_at (target ∷ targets) zero = refl
+wanted_at (target ∷ targets) (suc t) = wanted_at targets t
+
 -- a channel that is there is one of a target that is
-some_target : (targets : List TargetScript) (t c : ℕ) → c < channels_of (slice_get targets t) → t < length targets
+pub some_target : (targets : List TargetScript) (t c : ℕ) → c < channels_of (slice_get targets t) → t < length targets
 some_target [] t c h = absurd (omega arith)
 some_target (target ∷ targets) zero c h = omega arith
 some_target (target ∷ targets) (suc t) c h = let l = some_target targets t c h in omega (arith, l)
@@ -82,17 +104,21 @@ some_target (target ∷ targets) (suc t) c h = let l = some_target targets t c h
 abbrev HasAll : Script → WorldAt → Type 0
 HasAll script w = (t : ℕ) → t < length script.targets → HasTarget script w t
 
+-- the channel and the place of a word that a sound statement names
+pub word_parts : (script : Script) (t : ℕ) (word : Word) → has_word script.targets t word ≡ true → (word.channel < channels_of (slice_get script.targets t)) × (word.at ≤ 64)
+word_parts script t word h =
+    let parts = and_parts (nat_lt word.channel (channels_of (slice_get script.targets t))) (nat_le word.at 64) h in
+    let first = parts.0 in
+    let second = parts.1 in
+    (grind (arith, nat_tests, first), grind (arith, nat_tests, second))
+
 -- words that a sound statement names are there
 module _ (script : Script) (w : WorldAt) (has : HasAll script w) where
   word_there : (t : ℕ) (word : Word) → has_word script.targets t word ≡ true → IsWordThere w.shared.words t word
   word_there t word h =
-      let parts = and_parts (nat_lt word.channel (channels_of (slice_get script.targets t))) (nat_le word.at 64) h in
-      let first = parts.0 in
-      let second = parts.1 in
-      let low : word.channel < channels_of (slice_get script.targets t) = grind (arith, nat_tests, first) in
-      let high : word.at ≤ 64 = grind (arith, nat_tests, second) in
-      let there = has t (some_target script.targets t word.channel low) in
-      named w.shared.words t (channels_of (slice_get script.targets t)) word.channel there.target there.few there.listed low there.sized word.at high
+      let parts = word_parts script t word h in
+      let there = has t (some_target script.targets t word.channel parts.0) in
+      named w.shared.words t (channels_of (slice_get script.targets t)) word.channel there.target there.few there.listed parts.0 there.sized word.at parts.1
 
   stray_act : (x : ThreadAt) (loads most : ℕ) (o : Option Statement) → IfSome o (λ s. is_statement script.targets s ≡ true)
       → IsActThere w.shared.words (stray_row script x loads most o).step
@@ -103,24 +129,29 @@ module _ (script : Script) (w : WorldAt) (has : HasAll script w) where
       word_there t word (and_parts (has_word script.targets t word) (is_patience n) h).0
   stray_act x loads most _ h = tt
 
+-- what holds of a place by its target and by the statements of its thread
+pub at_statement : (P : Option Statement → Type 0) (script : Script) (t k i : ℕ) → P None
+    → ((target : TargetScript) (statements : List Statement) (s : Statement) → slice_get script.targets t ≡ Some target → slice_get target.threads k ≡ Some statements
+    → slice_get statements i ≡ Some s → P (Some s)) → P (statement_at script t k i)
+at_statement P script t k i none some = by_target (slice_get script.targets t) refl
+  where
+    by_statement : (target : TargetScript) (statements : List Statement) → slice_get script.targets t ≡ Some target → slice_get target.threads k ≡ Some statements
+        → (o : Option Statement) → slice_get statements i ≡ o → P o
+    by_statement target statements e f None g = none
+    by_statement target statements e f (Some s) g = some target statements s e f g
+
+    by_thread : (target : TargetScript) → slice_get script.targets t ≡ Some target → (o : Option (List Statement)) → slice_get target.threads k ≡ o → P (slice_get (or_none o) i)
+    by_thread target e None f = none
+    by_thread target e (Some statements) f = by_statement target statements e f (slice_get statements i) refl
+
+    by_target : (o : Option TargetScript) → slice_get script.targets t ≡ o → P (slice_get (or_none (slice_get (threads_of o) k)) i)
+    by_target None e = none
+    by_target (Some target) e = by_thread target e (slice_get target.threads k) refl
+
 -- a statement of a sound script is sound
-module _ (script : Script) (t k i : ℕ) (sound : is_sound script ≡ true) (law : SoundStatements) where
-  pub sound_at : IfSome (statement_at script t k i) (λ s. is_statement script.targets s ≡ true)
-  sound_at = by_target (slice_get script.targets t) refl
-    where
-      by_statement : (target : TargetScript) (statements : List Statement) → slice_get script.targets t ≡ Some target → slice_get target.threads k ≡ Some statements
-          → (o : Option Statement) → slice_get statements i ≡ o → IfSome o (λ s. is_statement script.targets s ≡ true)
-      by_statement target statements e f None g = tt
-      by_statement target statements e f (Some s) g = law script t k i target statements s sound e f g
-
-      by_thread : (target : TargetScript) → slice_get script.targets t ≡ Some target → (o : Option (List Statement)) → slice_get target.threads k ≡ o
-          → IfSome (slice_get (or_none o) i) (λ s. is_statement script.targets s ≡ true)
-      by_thread target e None f = tt
-      by_thread target e (Some statements) f = by_statement target statements e f (slice_get statements i) refl
-
-      by_target : (o : Option TargetScript) → slice_get script.targets t ≡ o → IfSome (slice_get (or_none (slice_get (threads_of o) k)) i) (λ s. is_statement script.targets s ≡ true)
-      by_target None e = tt
-      by_target (Some target) e = by_thread target e (slice_get target.threads k) refl
+pub sound_at : (script : Script) (t k i : ℕ) → is_sound script ≡ true → SoundStatements → IfSome (statement_at script t k i) (λ s. is_statement script.targets s ≡ true)
+sound_at script t k i sound law =
+    at_statement (λ o. IfSome o (λ s. is_statement script.targets s ≡ true)) script t k i tt (λ target statements s e f g. law script t k i target statements s sound e f g)
 
 -- the step of a thread at a stage
 module _ (script : Script) (w : WorldAt) (x : ThreadAt) (has : HasAll script w) (target : x.target < 8) (few : length x.clean ≤ 8) (here : x.target < length w.shared.words)
@@ -151,15 +182,7 @@ listed (ys ∷ xs) (suc t) k h = let l = listed xs t k h in omega (arith, l)
 -- the targets of a world that runs a script have their words
 module _ (script : Script) (w : WorldAt) (kept : IsWorld w) (runs : IsRunning script w) where
   pub as_many : length w.workers ≡ length script.targets
-  as_many =
-      let books = kept.channels in
-      let mapped : length w.shared.book.setting.channels ≡ length script.targets =
-      ap (λ (cs : List ℕ). length cs) runs.channels ∙ mapped_length script.targets in
-      sym books ∙ mapped
-    where
-      mapped_length : (targets : List TargetScript) → length (map (λ target. target.channels) targets) ≡ length targets
-      mapped_length [] = refl
-      mapped_length (target ∷ targets) = ap suc (mapped_length targets)
+  as_many = sym kept.channels ∙ (ap (λ (cs : List ℕ). length cs) runs.channels ∙ length-map script.targets (λ target. target.channels))
 
   pub their_channels : (t : ℕ) → channels_at w t ≡ channels_of (slice_get script.targets t)
   their_channels t = ap (λ cs. slice_index cs t) runs.channels ∙ channels_from script.targets t
@@ -193,3 +216,14 @@ module _ (script : Script) (w : WorldAt) (kept : IsWorld w) (runs : IsRunning sc
       let mine : length (words_of w.shared.words x.target) ≡ length x.clean * 65 =
       subst (λ z. length (words_of w.shared.words z) ≡ length x.clean * 65) (sym y.its_target) (worker.sized ∙ ap (λ z. z * 65) same) in
       thread_act script w x targets_there low (subst (λ z. z ≤ 8) same worker.few) here mine y.short (sound_at script x.target x.thread x.place (ready_sound runs.policies script runs.ready) law) x.stage y.sound
+
+-- the strings of the call at each place of a script are made of units
+abbrev pub HasUnits : Script → Type 0
+HasUnits script = (t k i : ℕ) (tag : CallTag) (args : List Arg) → statement_at script t k i ≡ Some (Call tag args) → list_all has_units args ≡ true
+
+pub units_are_placed : (script : Script) → script_has_units script ≡ true → HasUnits script
+units_are_placed script h t k i tag args e =
+    at_statement (λ o. o ≡ Some (Call tag args) → list_all has_units args ≡ true) script t k i (λ q. absurd (none_some (Call tag args) q))
+    (λ target statements s f g q same.
+    one_of_all statement_has_units statements i (Call tag args)
+    (one_of_all thread_has_units target.threads k statements (one_of_all target_has_units script.targets t target h f) g) (q ∙ same)) e
