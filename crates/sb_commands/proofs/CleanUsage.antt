@@ -1,20 +1,24 @@
 -- The message of arguments that are no command is clean.
-use Rattle.std.proofs.Common.{◌≡◌, ℕ, suc, ◌-◌, ◌==◌, Bool, true, false, cond, ◌&&◌, List, [], ◌∷◌, ◌++◌, length, drop, Option, None, Some, codes, refl, subst, sym, inl, inr}
-use Rattle.std.specs.Prelude.{⊤, is_some, Result, Ok, Err}
+use Rattle.std.proofs.Common.{◌≡◌, ℕ, suc, ◌-◌, ◌==◌, Bool, true, false, cond, ◌&&◌, List, [], ◌∷◌, ◌++◌, length, drop, Option, None, Some, codes, nat_eq, refl, subst, sym, inl, inr}
+use Rattle.std.specs.Prelude.{⊤, is_some, slice_get, Result, Ok, Err}
 use Rattle.std.specs.List.{list_all}
+use Rattle.std.specs.Cmp.Lexicographic.{pointwise}
 use Rattle.std.specs.Fmt.{decimal}
-use Rattle.sb_glyphs.proofs.CleanLaws.{Spelled, is_plain, clean_of, both, three, four, nothing, plain, decimal_clean, bytes_clean, quoted_bytes_clean, feed}
+use Rattle.sb_glyphs.proofs.CleanLaws.{Spelled, is_plain, clean_of, both, three, four, five, nothing, plain, decimal_clean, bytes_clean, quoted_bytes_clean, feed}
 use Rattle.sb_commands.proofs.Listed.{form_is, is_plain_choice, is_plain_form, is_plain_name, is_plain_place, plain_form}
 use Rattle.sb_commands.proofs.ReadSteps.{both as and_both}
+use Rattle.sb_commands.specs.declared.works.PlainWork.TheVariants.{Check}
+use Rattle.sb_commands.specs.declared.works.ThreadedWork.TheVariants.{Run}
 use Rattle.sb_commands.specs.declared.works.Work.{Work}
+use Rattle.sb_commands.specs.declared.works.Work.TheVariants.{Plain, Threaded}
 use Rattle.sb_glyphs.specs.CleanTexts.{IsClean}
 use Rattle.sb_glyphs.specs.Tokens.{quoted_bytes}
 use Rattle.sb_commands.specs.Commands.{Command, with_values, with_form, command_of}
-use Rattle.sb_commands.specs.Forms.{Bounded, Choice, Form, Place, File, Number, form_by}
+use Rattle.sb_commands.specs.Forms.{Bounded, Choice, Form, Place, File, Number, form_by, form_with}
 use Rattle.sb_commands.specs.NumberWords.{is_number}
 use Rattle.sb_commands.specs.Usage.{Fault, NotUtf8, NoCommand, UnknownCommand, UnknownOption, OptionTwice, OptionBetween, NoOptionNumber, BadOptionNumber, NoFileName, BadNumber, ExtraWord, Missing, Values, FlagWord, Apart, Joined, Other, flag_word, Cut, cut_apart, cut_by, cut_option, dash_by, dash_fault, is_dash, kind_fault, place_fault, place_name, unless_fault, cut_places, last_by, cut_last, cut_end, extra_in, values_unless, with_end, with_last, with_places, with_option, read_by}
 use Rattle.sb_commands.specs.UsageLaws.{UsageMessagesAreClean}
-use Rattle.sb_commands.specs.UsageMessages.{word_at, quoted_word, command_text, bounds_text, name_text, wrong_text, flag_text, number_text, fault_text, usage_line, usage_message}
+use Rattle.sb_commands.specs.UsageMessages.{word_at, quoted_word, command_text, bounds_text, name_text, wrong_text, flag_text, number_text, fault_text, form_text, unknown_text, argument_text, is_flag, topic_text, first_text, second_text, no_command_text, advice, usage_line, usage_message}
 
 -- ---- what is spelled by clean characters in a fault
 
@@ -63,13 +67,37 @@ wrong_clean words name at why hn hw =
 number_clean : (choice : Choice) (why : List ℕ) → HasCleanChoice choice → Spelled why → Spelled (number_text choice why)
 number_clean choice why h hw = three (flag_text choice) choice.number.name why (flag_clean choice h) h.1 hw
 
+argument_clean : (words : List (List ℕ)) (before : List ℕ) (at : ℕ) → Spelled before → Spelled (argument_text words before at)
+argument_clean words before at h = three (command_text words) before (quoted_word at words) (command_clean words) h (quoted_bytes_clean (word_at at words))
+
+unknown_clean : (words : List (List ℕ)) → Spelled (unknown_text (codes "unknown command ") 0 words)
+unknown_clean words = both (codes "unknown command ") (quoted_word 0 words) (plain (codes "unknown command ") refl) (quoted_bytes_clean (word_at 0 words))
+
+topic_clean : (form : Option Form) (words : List (List ℕ)) → Spelled (topic_text form words)
+topic_clean None words = argument_clean words (codes "unknown command ") 1 (plain (codes "unknown command ") refl)
+topic_clean (Some form) words = argument_clean words (codes "extra argument ") 2 (plain (codes "extra argument ") refl)
+
+one_of : (b : Bool) (x y : List ℕ) → Spelled x → Spelled y → Spelled (cond b x y)
+one_of true x y hx hy = hx
+one_of false x y hx hy = hy
+
+first_clean : (first second : List ℕ) (words : List (List ℕ)) → Spelled (first_text first second words)
+first_clean first second words =
+    one_of (pointwise nat_eq first (codes "help")) _ _ (topic_clean (form_by second) words)
+    (one_of (is_flag first) _ _ (argument_clean words (codes "extra argument ") 1 (plain (codes "extra argument ") refl)) (unknown_clean words))
+
+second_clean : (second : Option (List ℕ)) (words : List (List ℕ)) → Spelled (second_text second words)
+second_clean None words = unknown_clean words
+second_clean (Some second) words = first_clean (word_at 0 words) second words
+
+no_command_clean : (words : List (List ℕ)) → Spelled (no_command_text words)
+no_command_clean words = second_clean (slice_get words 1) words
+
 text_clean : (fault : Fault) (words : List (List ℕ)) → HasCleanNames fault → Spelled (fault_text fault words)
 text_clean NotUtf8 words h = plain (codes "an argument is not UTF-8") refl
 text_clean NoCommand words h = plain (codes "a command is missing") refl
-text_clean UnknownCommand words h =
-    both (codes "unknown command ") (quoted_word 0 words) (plain (codes "unknown command ") refl) (quoted_bytes_clean (word_at 0 words))
-text_clean (UnknownOption at) words h =
-    three (command_text words) (codes "unknown option ") (quoted_word at words) (command_clean words) (plain (codes "unknown option ") refl) (quoted_bytes_clean (word_at at words))
+text_clean UnknownCommand words h = no_command_clean words
+text_clean (UnknownOption at) words h = argument_clean words (codes "unknown option ") at (plain (codes "unknown option ") refl)
 text_clean (OptionTwice at choice) words h =
     name_clean words (codes "--") choice.flag (codes " is given twice") (plain (codes "--") refl) h.0 (plain (codes " is given twice") refl)
 text_clean (OptionBetween at choice) words h =
@@ -81,17 +109,42 @@ text_clean (BadOptionNumber at skipped choice) words h =
     (quoted_bytes_clean (drop skipped (word_at at words))) (bounds_clean choice.number)
 text_clean (NoFileName at name) words h = wrong_clean words name at (codes " is not a file name") h (plain (codes " is not a file name") refl)
 text_clean (BadNumber at number) words h = wrong_clean words number.name at (bounds_text number) h (bounds_clean number)
-text_clean (ExtraWord at) words h =
-    three (command_text words) (codes "extra argument ") (quoted_word at words) (command_clean words) (plain (codes "extra argument ") refl) (quoted_bytes_clean (word_at at words))
+text_clean (ExtraWord at) words h = argument_clean words (codes "extra argument ") at (plain (codes "extra argument ") refl)
 text_clean (Missing name) words h = name_clean words [] name (codes " is missing") nothing h (plain (codes " is missing") refl)
 
 line_clean : Spelled usage_line
 line_clean = plain usage_line refl
 
+-- ---- what to write
+
+-- the text of each form of the table is plain
+form_text_plain : (work : Work) → list_all is_plain (form_text (form_with work)) ≡ true
+form_text_plain (Plain Check) = refl
+form_text_plain (Threaded Run) = refl
+form_text_plain work = refl
+
+name_plain : (work : Work) → list_all is_plain (form_with work).name ≡ true
+name_plain (Plain Check) = refl
+name_plain (Threaded Run) = refl
+name_plain work = refl
+
+advice_clean : (name : List ℕ) → Spelled (advice (form_by name))
+advice_clean name = by (form_by name) refl
+  where
+    by : (form : Option Form) → form_by name ≡ form → Spelled (advice form)
+    by None e = both (codes "  sandbox help") (codes "\n") (plain (codes "  sandbox help") refl) feed
+    by (Some form) e =
+        let is = form_is name form e in
+        five (codes "  sandbox ") (form_text form) (codes "\n  sandbox help ") form.name (codes "\n") (plain (codes "  sandbox ") refl)
+        (plain (form_text form) (subst (λ f. list_all is_plain (form_text f) ≡ true) is (form_text_plain form.work)))
+        (both (codes "\n") (codes "  sandbox help ") feed (plain (codes "  sandbox help ") refl))
+        (plain form.name (subst (λ f. list_all is_plain f.name ≡ true) is (name_plain form.work))) feed
+
 message_clean : (fault : Fault) (words : List (List ℕ)) → HasCleanNames fault → IsClean (usage_message fault words)
 message_clean fault words h =
     clean_of (usage_message fault words)
-    (four (codes "sandbox: ") (fault_text fault words) (codes "\n") usage_line (plain (codes "sandbox: ") refl) (text_clean fault words h) feed line_clean)
+    (five (codes "sandbox: ") (fault_text fault words) (codes "\n") (advice (form_by (word_at 0 words))) usage_line (plain (codes "sandbox: ") refl)
+    (text_clean fault words h) feed (advice_clean (word_at 0 words)) line_clean)
 
 -- ---- the faults of a form
 

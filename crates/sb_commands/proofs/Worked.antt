@@ -2,12 +2,13 @@
 use Rattle.std.proofs.Common.{◌≡◌, refl, ℕ, List, Option, codes, [], ◌∷◌, ◌++◌, Some, None}
 use Rattle.std.specs.Prelude.{Ok, Err}
 use Rattle.sb_commands.specs.Commands.{command_of}
-use Rattle.sb_commands.specs.Forms.{Choice}
+use Rattle.sb_commands.specs.Forms.{Choice, form_by, form_with}
+use Rattle.sb_commands.specs.Inquiries.{HelpOf, asked_of}
 use Rattle.sb_commands.specs.Usage.{Values, NotUtf8, NoCommand, UnknownCommand, UnknownOption, OptionTwice, OptionBetween, NoOptionNumber, BadOptionNumber, NoFileName, BadNumber, ExtraWord, Missing}
 use Rattle.sb_commands.specs.declared.works.PlainWork.TheVariants.{Audit, Check, Dup, Linked, Local, Replay}
 use Rattle.sb_commands.specs.declared.works.ThreadedWork.TheVariants.{Run}
 use Rattle.sb_commands.specs.declared.works.Work.TheVariants.{Plain, Threaded}
-use Rattle.sb_commands.specs.UsageMessages.{fault_text, usage_line, usage_message}
+use Rattle.sb_commands.specs.UsageMessages.{advice, argument_text, fault_text, usage_line, usage_message}
 
 abbrev workers : Choice
 workers = record { flag = codes "workers"; number = record { name = codes "N"; low = 1; high = 8 }; default = 2 }
@@ -84,5 +85,28 @@ too_many_targets = refl
 number_missing : fault_text (NoOptionNumber 3 workers) [] ≡ codes "--workers: N is missing"
 number_missing = refl
 
-not_utf8 : usage_message NotUtf8 [] ≡ codes "sandbox: an argument is not UTF-8\n" ++ usage_line
+not_utf8 : usage_message NotUtf8 [] ≡ codes "sandbox: an argument is not UTF-8\n  sandbox help\n" ++ usage_line
 not_utf8 = refl
+
+form_is_told : advice (form_by (codes "replay")) ≡ codes "  sandbox replay POLICY SCRIPT [SCHEDULE]\n  sandbox help replay\n"
+form_is_told = refl
+
+no_topic : fault_text UnknownCommand (codes "help" ∷ codes "foo" ∷ []) ≡ argument_text (codes "help" ∷ codes "foo" ∷ []) (codes "unknown command ") 1
+no_topic = refl
+
+topic_twice : fault_text UnknownCommand (codes "help" ∷ codes "run" ∷ codes "x" ∷ []) ≡ argument_text (codes "help" ∷ codes "run" ∷ codes "x" ∷ []) (codes "extra argument ") 2
+topic_twice = refl
+
+flag_not_alone : fault_text UnknownCommand (codes "--version" ∷ codes "x" ∷ []) ≡ argument_text (codes "--version" ∷ codes "x" ∷ []) (codes "extra argument ") 1
+flag_not_alone = refl
+
+-- ---- inquiries
+
+help_of_check : asked_of (codes "help" ∷ codes "check" ∷ []) ≡ Some (HelpOf (form_with (Plain Check)))
+help_of_check = refl
+
+flag_behind_files : asked_of (codes "check" ∷ codes "p" ∷ codes "--help" ∷ codes "q" ∷ []) ≡ Some (HelpOf (form_with (Plain Check)))
+flag_behind_files = refl
+
+flag_behind_nothing : asked_of (codes "chek" ∷ codes "-h" ∷ []) ≡ None
+flag_behind_nothing = refl

@@ -1,7 +1,7 @@
 -- The arguments that ask the program about itself.
 use Rattle.std.specs.Prelude.{ℕ, Bool, ◌||◌, List, [], ◌∷◌, ◌++◌, Option, None, Some, if◌then◌else◌, nat_eq, codes, option_map}
 use Rattle.std.specs.Cmp.Lexicographic.{pointwise}
-use Rattle.std.specs.List.{flat_map}
+use Rattle.std.specs.List.{flat_map, list_any}
 use Rattle.sb_commands.specs.Forms.{Form, Place, form_by, form_of, forms}
 use Rattle.sb_commands.specs.Usage.{place_name}
 use Rattle.sb_commands.specs.UsageMessages.{form_text}
@@ -25,17 +25,22 @@ inquiry_alone word =
     if pointwise nat_eq word (codes "help") || is_help_flag word then Some Help
     else (if pointwise nat_eq word (codes "--version") then Some Version else None)
 
--- `help COMMAND`, `COMMAND --help` or `COMMAND -h`
-abbrev pub inquiry_by : List ℕ → List ℕ → Option Asked
-inquiry_by first second =
-    if pointwise nat_eq first (codes "help") then option_map HelpOf (form_by second)
-    else (if is_help_flag second then option_map HelpOf (form_by first) else None)
+-- the name of a command after `help`
+abbrev pub named_help : List (List ℕ) → Option Asked
+named_help (name ∷ []) = option_map HelpOf (form_by name)
+named_help _ = None
+
+-- `help COMMAND`, or `--help` or `-h` anywhere after the name of a command
+abbrev pub inquiry_by : List ℕ → List (List ℕ) → Option Asked
+inquiry_by first later =
+    if pointwise nat_eq first (codes "help") then named_help later
+    else (if list_any is_help_flag later then option_map HelpOf (form_by first) else None)
 
 -- exactly these
 abbrev pub asked_of : List (List ℕ) → Option Asked
+asked_of [] = None
 asked_of (word ∷ []) = inquiry_alone word
-asked_of (first ∷ second ∷ []) = inquiry_by first second
-asked_of _ = None
+asked_of (first ∷ second ∷ more) = inquiry_by first (second ∷ more)
 
 -- the program's own
 abbrev pub asked : Inquiry → Asked

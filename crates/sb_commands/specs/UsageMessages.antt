@@ -1,11 +1,12 @@
 -- The message of arguments that are no command.
-use Rattle.std.specs.Prelude.{ℕ, List, [], ◌∷◌, ◌++◌, drop, slice_get, Option, None, Some, codes}
+use Rattle.std.specs.Prelude.{ℕ, List, [], ◌∷◌, ◌++◌, ◌||◌, Bool, drop, slice_get, Option, None, Some, codes, nat_eq, if◌then◌else◌}
 use Rattle.std.specs.Fmt.{decimal}
+use Rattle.std.specs.Cmp.Lexicographic.{pointwise}
 use Rattle.std.specs.List.{flat_map}
 use Rattle.sb_glyphs.specs.Glyphs.{shown_bytes}
 use Rattle.sb_glyphs.specs.Tokens.{quoted_bytes}
 use Rattle.sb_text.specs.MissingTexts.{or_empty}
-use Rattle.sb_commands.specs.Forms.{Bounded, Choice, Form, Place, forms}
+use Rattle.sb_commands.specs.Forms.{Bounded, Choice, Form, Place, form_by, forms}
 use Rattle.sb_commands.specs.Usage.{Fault, NotUtf8, NoCommand, UnknownCommand, UnknownOption, OptionTwice, OptionBetween, NoOptionNumber, BadOptionNumber, NoFileName, BadNumber, ExtraWord, Missing, place_name}
 
 -- ---- the usage line
@@ -64,6 +65,28 @@ unknown_text before at words = before ++ quoted_word at words
 abbrev pub argument_text : List (List ℕ) → List ℕ → ℕ → List ℕ
 argument_text words before at = command_text words ++ before ++ quoted_word at words
 
+-- `--help`, `-h` or `--version`
+abbrev pub is_flag : List ℕ → Bool
+is_flag word = pointwise nat_eq word (codes "--help") || pointwise nat_eq word (codes "-h") || pointwise nat_eq word (codes "--version")
+
+-- of two arguments and more, of which the first is no command: after `help` comes the name of one, alone; after a flag that is asked alone comes nothing
+abbrev pub topic_text : Option Form → List (List ℕ) → List ℕ
+topic_text None words = argument_text words (codes "unknown command ") 1
+topic_text (Some form) words = argument_text words (codes "extra argument ") 2
+
+abbrev pub first_text : List ℕ → List ℕ → List (List ℕ) → List ℕ
+first_text first second words =
+    if pointwise nat_eq first (codes "help") then topic_text (form_by second) words
+    else (if is_flag first then argument_text words (codes "extra argument ") 1 else unknown_text (codes "unknown command ") 0 words)
+
+-- of arguments of which the first is no command, with the second, if there is one
+abbrev pub second_text : Option (List ℕ) → List (List ℕ) → List ℕ
+second_text None words = unknown_text (codes "unknown command ") 0 words
+second_text (Some second) words = first_text (word_at 0 words) second words
+
+abbrev pub no_command_text : List (List ℕ) → List ℕ
+no_command_text words = second_text (slice_get words 1) words
+
 -- the command, and a name between words
 abbrev pub name_text : List (List ℕ) → List ℕ → List ℕ → List ℕ → List ℕ
 name_text words before name after = command_text words ++ before ++ name ++ after
@@ -83,7 +106,7 @@ number_text choice why = flag_text choice ++ choice.number.name ++ why
 abbrev pub fault_text : Fault → List (List ℕ) → List ℕ
 fault_text NotUtf8 words = codes "an argument is not UTF-8"
 fault_text NoCommand words = codes "a command is missing"
-fault_text UnknownCommand words = unknown_text (codes "unknown command ") 0 words
+fault_text UnknownCommand words = no_command_text words
 fault_text (UnknownOption at) words = argument_text words (codes "unknown option ") at
 fault_text (OptionTwice at choice) words = name_text words (codes "--") choice.flag (codes " is given twice")
 fault_text (OptionBetween at choice) words = name_text words (codes "--") choice.flag (codes " is not allowed between the files")
@@ -94,6 +117,13 @@ fault_text (BadNumber at number) words = wrong_text words number.name at (bounds
 fault_text (ExtraWord at) words = argument_text words (codes "extra argument ") at
 fault_text (Missing name) words = name_text words [] name (codes " is missing")
 
--- what was wrong, and last the usage line
+-- ---- what to write
+
+-- the form of the command that is named and how to ask for its help, or how to ask for all
+abbrev pub advice : Option Form → List ℕ
+advice None = codes "  sandbox help\n"
+advice (Some form) = codes "  sandbox " ++ form_text form ++ codes "\n  sandbox help " ++ form.name ++ codes "\n"
+
+-- what was wrong, what to write, and last the usage line
 abbrev pub usage_message : Fault → List (List ℕ) → List ℕ
-usage_message fault words = codes "sandbox: " ++ fault_text fault words ++ codes "\n" ++ usage_line
+usage_message fault words = codes "sandbox: " ++ fault_text fault words ++ codes "\n" ++ advice (form_by (word_at 0 words)) ++ usage_line

@@ -1,8 +1,8 @@
 // The arguments that ask the program about itself.
 ghost use Rattle.std.specs.Prelude.{◌≡◌, ◌++◌, map, option_map, OnOk, IfOk, string_bytes};
-ghost use Rattle.std.specs.List.{flat_map};
+ghost use Rattle.std.specs.List.{flat_map, list_any};
 ghost use Rattle.sb_commands.specs.Forms.{form_by, form_of, form_with, place_of};
-ghost use Rattle.sb_commands.specs.Inquiries.{HelpOf, answer_text, asked, inquiry_alone, inquiry_by, asked_of, command_help, commands_text, entry_text, faults_of, help_text, is_help_flag, last_faults, part_text, place_faults};
+ghost use Rattle.sb_commands.specs.Inquiries.{HelpOf, answer_text, asked, inquiry_alone, inquiry_by, named_help, asked_of, command_help, commands_text, entry_text, faults_of, help_text, is_help_flag, last_faults, part_text, place_faults};
 ghost use Rattle.sb_commands.specs.Usage.{texts};
 
 use crate::forms::{CommandForm, FormPlace, all_works, form_by, form_with};
@@ -27,8 +27,8 @@ pub enum Inquiry {
     Version,
 }
 
-// Whether an argument is `--help` or `-h`.
-fn is_help_flag(word: &str) -> bool
+/// Whether an argument is `--help` or `-h`.
+pub(crate) fn is_help_flag(word: &str) -> bool
     ensures { result ≡ is_help_flag word.now }
 {
     word == "--help" || word == "-h"
@@ -56,27 +56,49 @@ fn help_of(name: &str) -> Option<Inquiry>
     }
 }
 
-fn inquiry_by(first: &str, second: &str) -> Option<Inquiry>
-    ensures { option_map asked result ≡ inquiry_by first.now second.now }
+// The inquiry after `help`, if these arguments are the name of a command.
+fn named_help(names: &[String]) -> Option<Inquiry>
+    ensures { option_map asked result ≡ named_help (texts names.now) }
+{
+    match names {
+        [name] => help_of(name.as_str()),
+        _ => None,
+    }
+}
+
+// Whether one of the arguments is `--help` or `-h`.
+fn has_help_flag(words: &[String]) -> bool
+    ensures { result ≡ list_any is_help_flag (texts words.now) }
+{
+    for word in words {
+        if is_help_flag(word.as_str()) {
+            return true;
+        }
+    }
+    false
+}
+
+fn inquiry_by(first: &str, later: &[String]) -> Option<Inquiry>
+    ensures { option_map asked result ≡ inquiry_by first.now (texts later.now) }
 {
     if first == "help" {
-        return help_of(second);
+        return named_help(later);
     }
-    if is_help_flag(second) {
+    if has_help_flag(later) {
         return help_of(first);
     }
     None
 }
 
-/// What the arguments ask, if they are exactly `help`, `-h`, `--help`, `--version`, or `help COMMAND`, `COMMAND -h` or `COMMAND --help` with the name
-/// of a command. Does not allocate.
+/// What the arguments ask: `help`, `-h`, `--help` or `--version` alone, `help COMMAND`, or the name of a command with `-h` or `--help` anywhere after
+/// it. Does not allocate.
 pub fn inquiry_of(words: &[String]) -> Option<Inquiry>
     ensures { option_map asked result ≡ asked_of (texts words.now) }
 {
     match words {
+        [] => None,
         [word] => inquiry_alone(word.as_str()),
-        [first, second] => inquiry_by(first.as_str(), second.as_str()),
-        _ => None,
+        [first, later @ ..] => inquiry_by(first.as_str(), later),
     }
 }
 

@@ -7,6 +7,11 @@ const ABOUT: &str =
 the targets. Without the option N is 2. The option is before the files or after
 them, and may be one word, --workers=N.
 
+A run has no bound of time. A call on a clean channel waits for its reply. A
+`wait` makes up to 1000000 loads, and a call on channels that are not clean up
+to 8000000 tries and 1000000 loads, so the 131072 statements of the largest
+script make up to 1179648000000 of these.
+
 example:
   sandbox run examples/files.policy examples/files.script --workers 4
 ";

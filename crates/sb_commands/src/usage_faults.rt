@@ -9,7 +9,7 @@ pub enum UsageFault {
     NotUtf8,
     /// There are no arguments.
     NoCommand,
-    /// The first argument is the name of no command.
+    /// The first argument is the name of no command. If it is `help` and another argument follows, that is no command, or one too many follow it.
     UnknownCommand,
     /// The argument at this place begins with `-`, and the command has no such option.
     UnknownOption(usize),

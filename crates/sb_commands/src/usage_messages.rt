@@ -1,11 +1,12 @@
 // The message of arguments that are no command.
-ghost use Rattle.std.specs.Prelude.{◌≡◌, ◌++◌, [], drop, map, codes, option_map, OnOk, IfOk, string_bytes};
+ghost use Rattle.std.specs.Prelude.{◌≡◌, ◌++◌, [], Some, drop, map, codes, option_map, OnOk, IfOk, string_bytes};
 ghost use Rattle.std.specs.List.{flat_map};
-ghost use Rattle.sb_commands.specs.Forms.{bounded_of, choice_of, form_of, place_of};
-ghost use Rattle.sb_commands.specs.Usage.{BadNumber, BadOptionNumber, ExtraWord, Missing, NoFileName, NoOptionNumber, OptionBetween, OptionTwice, UnknownCommand, UnknownOption, fault_of, texts};
-ghost use Rattle.sb_commands.specs.UsageMessages.{argument_text, bounds_text, choice_text, command_text, fault_text, flag_text, form_text, last_text, name_text, number_text, place_text, quoted_word, unknown_text, usage_line, usage_message, word_at, wrong_text};
+ghost use Rattle.sb_commands.specs.Forms.{bounded_of, choice_of, form_by, form_of, place_of};
+ghost use Rattle.sb_commands.specs.Usage.{BadNumber, BadOptionNumber, ExtraWord, Missing, NoFileName, NoOptionNumber, OptionBetween, OptionTwice, UnknownOption, fault_of, texts};
+ghost use Rattle.sb_commands.specs.UsageMessages.{advice, first_text, is_flag, no_command_text, topic_text, argument_text, bounds_text, choice_text, command_text, fault_text, flag_text, form_text, last_text, name_text, number_text, place_text, quoted_word, unknown_text, usage_line, usage_message, word_at, wrong_text};
 
-use crate::forms::{CommandForm, FormNumber, FormOption, FormPlace, forms_text};
+use crate::forms::{CommandForm, FormNumber, FormOption, FormPlace, form_by, forms_text};
+use crate::inquiries::is_help_flag;
 use crate::usage::place_name;
 use crate::usage_faults::UsageFault;
 use sb_base::NoMemory;
@@ -168,11 +169,44 @@ fn put_unknown(out: &mut String, before: &str, at: usize, words: &[String]) -> R
     put_word(out, at, words)
 }
 
-// Appends the fault of a command's name.
-fn put_unknown_command(out: &mut String, words: &[String]) -> Result<(), NoMemory>
-    ensures { OnOk result (string_bytes out.new ≡ string_bytes out.old ++ fault_text UnknownCommand (texts words.now)) }
+// Appends that `help` has no such command, or an argument more.
+fn put_topic(out: &mut String, topic: &str, words: &[String]) -> Result<(), NoMemory>
+    ensures { OnOk result (string_bytes out.new ≡ string_bytes out.old ++ topic_text (form_by topic.now) (texts words.now)) }
 {
+    match form_by(topic) {
+        None => put_argument_fault(out, "unknown command ", 1, words),
+        Some(_) => put_argument_fault(out, "extra argument ", 2, words),
+    }
+}
+
+// Whether the program answers this argument alone.
+fn is_flag(word: &str) -> bool
+    ensures { result ≡ is_flag word.now }
+{
+    is_help_flag(word) || word == "--version"
+}
+
+// Appends what is wrong with two arguments or more, of which the first is no command.
+fn put_first(out: &mut String, first: &str, second: &str, words: &[String]) -> Result<(), NoMemory>
+    ensures { OnOk result (string_bytes out.new ≡ string_bytes out.old ++ first_text first.now second.now (texts words.now)) }
+{
+    if first == "help" {
+        return put_topic(out, second, words);
+    }
+    if is_flag(first) {
+        return put_argument_fault(out, "extra argument ", 1, words);
+    }
     put_unknown(out, "unknown command ", 0, words)
+}
+
+// Appends what is wrong with arguments of which the first is no command.
+fn put_unknown_command(out: &mut String, words: &[String]) -> Result<(), NoMemory>
+    ensures { OnOk result (string_bytes out.new ≡ string_bytes out.old ++ no_command_text (texts words.now)) }
+{
+    match words.get(1) {
+        Some(second) => put_first(out, first_word(words), second.as_str(), words),
+        None => put_unknown(out, "unknown command ", 0, words),
+    }
 }
 
 // Appends that the command has no such option.
@@ -336,7 +370,39 @@ fn put_fault(out: &mut String, fault: UsageFault, words: &[String]) -> Result<()
     }
 }
 
-/// The message of arguments that are no command: what was wrong, and last the usage line. What is shown of an argument is escaped, and cut after 40
+// The name of the command that is named, or another first argument.
+fn first_word(words: &[String]) -> &str
+    ensures { result.now ≡ word_at 0 (texts words.now) }
+{
+    match words {
+        [first, ..] => first.as_str(),
+        [] => "",
+    }
+}
+
+// Appends the form of a command, and how to ask for its help.
+fn put_form_advice(out: &mut String, form: CommandForm<'static>) -> Result<(), NoMemory>
+    ensures { OnOk result (string_bytes out.new ≡ string_bytes out.old ++ advice (Some (form_of form.entry))) }
+{
+    out.push_str("  sandbox ")?;
+    put_form(out, form)?;
+    out.push_str("\n  sandbox help ")?;
+    out.push_str(form.name)?;
+    out.push_str("\n")?;
+    Ok(())
+}
+
+// Appends what to write in place of arguments that are no command.
+fn put_advice(out: &mut String, words: &[String]) -> Result<(), NoMemory>
+    ensures { OnOk result (string_bytes out.new ≡ string_bytes out.old ++ advice (form_by (word_at 0 (texts words.now)))) }
+{
+    match form_by(first_word(words)) {
+        Some(form) => put_form_advice(out, form),
+        None => Ok(out.push_str("  sandbox help\n")?),
+    }
+}
+
+/// The message of arguments that are no command: what was wrong, the form of the command that is named, how to ask for help, and last the usage line. What is shown of an argument is escaped, and cut after 40
 /// characters.
 ///
 /// # Errors
@@ -348,6 +414,7 @@ pub fn usage_message(alloc: Global, fault: UsageFault, words: &[String]) -> Resu
     message.push_str("sandbox: ")?;
     put_fault(&mut message, fault, words)?;
     message.push_str("\n")?;
+    put_advice(&mut message, words)?;
     put_usage_line(&mut message)?;
     Ok(message)
 }

@@ -3,6 +3,7 @@ use Rattle.std.specs.Prelude.{◌≡◌, ◌⊎◌, ◌++◌, ℕ, List, [], Opt
 use Rattle.sb_commands.specs.Commands.{Command}
 use Rattle.sb_commands.specs.Usage.{Fault}
 use Rattle.sb_outside.specs.Outside.{GrowsBy, GrowsByPrefix}
+use Rattle.sb_outside.specs.declared.sink.SinkFault.{SinkFault}
 use Rattle.sb_plain.specs.Effects.{Effect, IsOrderly}
 use Rattle.sb_top.specs.Top.{EndsAsMeant, files_for}
 use Rattle.sb_plain.specs.declared.outcomes.Outcome.{Outcome}
@@ -18,5 +19,5 @@ pub record IsAnswer {G S : Type 0} (wanted : Result Command Fault) (e : Effect G
 abbrev pub IsTold : List ℕ → Option (List ℕ) → List ℕ → Option (List ℕ) → List ℕ → Type 0 → Status → Type 0
 IsTold text before pending after pending' rose s =
     ((s ≡ Done) × GrowsBy before (pending ++ text) after × (pending' ≡ []))
-    ⊎ ((s ≡ WriteFault) × GrowsByPrefix before (pending ++ text) after × rose)
+    ⊎ ((fault : SinkFault) × (s ≡ WriteFault fault) × GrowsByPrefix before (pending ++ text) after × rose)
     ⊎ ((s ≡ NoMemory) × (after ≡ before))

@@ -12,7 +12,7 @@ use Rattle.sb_plain.specs.Effects.{Effect}
 use Rattle.sb_plain.specs.declared.outcomes.Outcome.{Outcome}
 use Rattle.sb_plain.specs.declared.outcomes.Status.{Status}
 use Rattle.sb_plain.specs.declared.outcomes.Status.TheVariants.{Done, NoMemory, Usage}
-use Rattle.sb_top.specs.Exits.{code_of, line_of, message_of}
+use Rattle.sb_top.specs.Exits.{IsMessageOf, code_of, line_of}
 
 -- ---- standard error
 
@@ -41,10 +41,10 @@ short_message status = line_of status ++ 10 ∷ []
 abbrev pub shortest_message : List ℕ
 shortest_message = line_of NoMemory ++ 10 ∷ []
 
--- the text is the message of the outcome of these arguments; or there was no memory for that, and it is the short one; or there was none for this either
+-- the text is a message of the outcome of these arguments; or there was no memory for that, and it is the short one; or there was none for this either
 abbrev pub IsMessage : List (List ℕ) → Outcome → List ℕ → Type 0
 IsMessage words o text =
-    (text ≡ message_of words o.status o.shown)
+    IsMessageOf words o.status o.shown text
     ⊎ (text ≡ short_message o.status)
     ⊎ ((o.status ≢ Done) × (text ≡ shortest_message))
 

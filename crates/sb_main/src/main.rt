@@ -1,9 +1,10 @@
 // The program: the arguments of its command line, real files and standard output, and how it ends.
 #![tactic(auto)]
 
+mod arguments;
 mod complaints;
 
-ghost use Rattle.std.specs.Prelude.{◌≡◌, None, Err, [], drop, IfErr, IfOk, IfSome, IsSome, if◌then◌else◌};
+ghost use Rattle.std.specs.Prelude.{◌≡◌, None, Err, [], IfErr, IfOk, IfSome, IsSome, if◌then◌else◌};
 ghost use Rattle.sb_outside.specs.Outside.{Rose};
 ghost use Rattle.sb_commands.specs.Commands.{command_of};
 ghost use Rattle.sb_commands.specs.Inquiries.{answer_text, asked, asked_of};
@@ -11,48 +12,32 @@ ghost use Rattle.sb_commands.specs.Usage.{fault_of, texts};
 ghost use Rattle.sb_commands.specs.declared.usage_faults.UsageFault.{UsageFault};
 ghost use Rattle.sb_plain.specs.Effects.{effect};
 ghost use Rattle.sb_top.specs.Exits.{code_of};
-ghost use Rattle.sb_main.specs.Gathering.{gathering_status};
 ghost use Rattle.sb_main.specs.Answers.{IsAnswer, IsTold};
 ghost use Rattle.sb_main.specs.Faulty.{IsFaulty};
-ghost use Rattle.sb_main.specs.Program.{IsComplaint, IsUnanswered, IsSettled, IsUngathered, bare, output};
+ghost use Rattle.sb_main.specs.Program.{IsComplaint, IsUnanswered, IsSettled, bare, output};
 
+use crate::arguments::given_arguments;
 use crate::complaints::complain;
 use sb_base::NoMemory;
-use sb_commands::{Inquiry, UsageFault, inquiry_of, inquiry_text};
-use sb_outside::{Files, HostFiles, HostSink, OpenGate, PIECE, Sink, put_text};
+use sb_commands::{Inquiry, inquiry_of, inquiry_text};
+use sb_outside::{
+    Files, HostDisk, HostFiles, HostOutput, HostSink, OpenGate, PIECE, Sink, put_text,
+};
 use sb_plain::{Outcome, Status};
 use sb_top::{exit_code, plain_top, statuses_are_of_commands, threads_top};
 use std::alloc::Global;
-use std::io::{ErrorKind, IsTerminal, Write};
+use std::io::{self, IsTerminal, Write};
 use std::process::ExitCode;
-use std::rt::Env;
 use std::sync::Wait;
 use std::thread::Threads;
-use std::{env, io};
 
 fn main(rt: HostRuntime) -> ExitCode {
     let arguments = given_arguments(&rt);
-    let mut files = HostFiles::new(&rt);
+    let mut files = HostFiles::new(HostDisk::new(&rt));
     let piece = piece_for(rt.stdout().is_terminal());
     let mut out = stream(rt.alloc(), io::writer(&rt), piece);
     let mut errors = stream(rt.alloc(), rt.stderr(), 0);
     ExitCode::from(run(&rt, arguments, &mut files, &mut out, &mut errors))
-}
-
-// The arguments, of which the first is the name of the program, as the system gives them.
-fn given_arguments<R: Env + AllocGlobal>(rt: &R) -> Result<Vec<String>, Status>
-    ensures { IfErr result IsUngathered }
-{
-    match env::args(rt) {
-        Ok(arguments) => {
-            let all: Result<Vec<String>, _> = arguments.collect(rt.alloc());
-            match all {
-                Ok(all) => Ok(all),
-                Err(_) => Err(Status::NoMemory),
-            }
-        }
-        Err(error) => Err(no_words(error.kind())),
-    }
 }
 
 // How many bytes a piece of the output has: none to a terminal, where each put is written at once.
@@ -63,21 +48,21 @@ fn piece_for(is_terminal: bool) -> usize
 }
 
 // A stream of the system as an output, which holds back less than a piece. There need be no memory for a piece: without it all is written at once.
-fn stream<W: Write + Drop>(alloc: Global, writer: W, piece: usize) -> HostSink<W>
-    ensures writer { result.writer ≡ writer }
+fn stream<W: Write + Drop>(alloc: Global, writer: W, piece: usize) -> HostSink<HostOutput<W>>
+    ensures writer { result.writer.writer ≡ writer }
     ensures piece { result.piece ≡ piece }
     ensures empty { result.pending.items ≡ [] }
     ensures faults { result.faults ≡ 0 }
 {
     HostSink {
-        writer,
+        writer: HostOutput { writer },
         pending: Vec::new(alloc),
         piece,
         faults: 0,
     }
 }
 
-// All that the program does with its arguments, over any files and any two outputs: does what they ask, tells on the second output what went wrong, and
+// All that the program does with the arguments after its name, over any files and any two outputs: does what they ask, tells on the second output what went wrong, and
 // returns the exit code.
 fn run<R: AllocGlobal + Threads + Wait + Sync, F: Files, K: Sink, E: Sink>(
     rt: &R,
@@ -86,8 +71,8 @@ fn run<R: AllocGlobal + Threads + Wait + Sync, F: Files, K: Sink, E: Sink>(
     out: &mut K,
     errors: &mut E,
 ) -> u8
-    // What the arguments after the first ask is done once; the message of its outcome is told once; and the exit code is that of its status.
-    ensures settled { IfOk arguments (λ all. IsSettled (texts (drop 1 all.items))
+    // What the arguments ask is done once; the message of its outcome is told once; and the exit code is that of its status.
+    ensures settled { IfOk arguments (λ all. IsSettled (texts all.items)
         (effect F.held F.faults K.written K.pending K.faults files.old files.new out.old out.new)
         (output E.written E.pending E.faults errors.old) (output E.written E.pending E.faults errors.new) result) }
 
@@ -97,18 +82,8 @@ fn run<R: AllocGlobal + Threads + Wait + Sync, F: Files, K: Sink, E: Sink>(
         (output E.written E.pending E.faults errors.old) (output E.written E.pending E.faults errors.new) result) }
 {
     match arguments {
-        Ok(all) => settle(rt, after_name(&all), files, out, errors),
+        Ok(all) => settle(rt, &all, files, out, errors),
         Err(status) => refuse(rt.alloc(), status, errors),
-    }
-}
-
-// The arguments after the name of the program.
-fn after_name(arguments: &[String]) -> &[String]
-    ensures { result.now ≡ drop 1 arguments.now }
-{
-    match arguments {
-        [_, words @ ..] => words,
-        [] => &[],
     }
 }
 
@@ -145,16 +120,6 @@ fn outcome_of(status: Status) -> Outcome
         status,
         shown: None,
         report: None,
-    }
-}
-
-// Arguments that were not gathered are not UTF-8, or there was no memory for them.
-fn no_words(kind: ErrorKind) -> Status
-    ensures { result ≡ gathering_status kind }
-{
-    match kind {
-        ErrorKind::OutOfMemory => Status::NoMemory,
-        _ => Status::Usage(UsageFault::NotUtf8),
     }
 }
 
@@ -229,6 +194,6 @@ fn put_whole<S: Sink>(text: &[u8], sink: &mut S) -> Status
 {
     match put_text(sink, text) {
         Ok(()) => Status::Done,
-        Err(_) => Status::WriteFault,
+        Err(fault) => Status::WriteFault(fault),
     }
 }

@@ -1,5 +1,6 @@
 mod Near
 pub mod CleanPlaces
+mod Numbered
 mod CleanMessages
 mod NoteParts
 mod TrueNotes

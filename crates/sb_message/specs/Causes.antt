@@ -1,43 +1,34 @@
--- What is wrong, in words.
-use Rattle.std.specs.Prelude.{ℕ, Bool, true, false, List, [], ◌++◌, if◌then◌else◌, codes}
+-- What is wrong, in words. The words are those of the program; the definitions have what they may be, and the numbers between them.
+use Rattle.std.specs.Prelude.{◌≡◌, ℕ, Bool, true, false, ◌&&◌, nat_le, nat_lt, List, [], ◌∷◌, ◌++◌, if◌then◌else◌}
 use Rattle.std.specs.Fmt.{decimal}
-use Rattle.sb_rule.specs.declared.pattern_faults.PatternFault.{PatternFault}
-use Rattle.sb_rule.specs.declared.pattern_faults.PatternFault.TheVariants.{DoubleStar, StarQuestion, TooLong}
+use Rattle.std.specs.List.{list_all}
 use Rattle.sb_text.specs.declared.refusals.WordFault.{WordFault}
-use Rattle.sb_text.specs.declared.refusals.WordFault.TheVariants.{Unknown, Missing, Extra, Broken, Quoted, Unquoted, Misplaced, Repeated, NoVersion}
+use Rattle.sb_text.specs.declared.refusals.WordFault.TheVariants.{Missing, NoVersion}
 
--- words, and after them the token if they name it
-abbrev pub cause_text : List ℕ → Bool → List ℕ → List ℕ
-cause_text words names_token named = words ++ (if names_token then named else [])
+-- a printable ASCII character
+abbrev pub is_printable : ℕ → Bool
+is_printable b = nat_le 32 b && nat_lt b 127
 
--- a number, and how many there are: `before FIRST between SECOND`
-abbrev pub two_text : List ℕ → ℕ → List ℕ → ℕ → List ℕ
-two_text before first between second = before ++ decimal first ++ between ++ decimal second
+-- words: printable ASCII characters
+abbrev pub are_words : List ℕ → Bool
+are_words text = list_all is_printable text
 
--- a target that a script does not have
-abbrev pub no_target_text : ℕ → ℕ → List ℕ
-no_target_text target targets = two_text (codes "no such target ") target (codes ": the script has ") targets
+-- words with these numbers between them, in this order
+abbrev pub HasNumbers : List ℕ → List ℕ → Type 0
+HasNumbers [] text = are_words text ≡ true
+HasNumbers (n ∷ numbers) text =
+    (before : List ℕ) × (after : List ℕ) × (are_words before ≡ true) × (text ≡ before ++ (decimal n ++ after)) × HasNumbers numbers after
 
--- why a token is not the word that is due
-abbrev pub word_words : WordFault → List ℕ
-word_words Unknown = codes "unknown word "
-word_words Missing = codes "a word is missing"
-word_words Extra = codes "extra word "
-word_words Broken = codes "broken token "
-word_words Quoted = codes "not allowed in quotes: "
-word_words Unquoted = codes "needs quotes: "
-word_words Misplaced = codes "not allowed on this line: "
-word_words Repeated = codes "only one line may begin with "
-word_words NoVersion = codes "the first line names no known version"
+-- words, after them the token if they name it, and what may stand there
+abbrev pub cause_text : List ℕ → Bool → List ℕ → List ℕ → List ℕ
+cause_text words names_token named hint = words ++ (if names_token then named else []) ++ hint
 
--- whether these words name the token
+-- whether the words for a token that is not due name it
 abbrev pub names_word : WordFault → Bool
 names_word Missing = false
 names_word NoVersion = false
 names_word _ = true
 
--- why a text is no pattern
-abbrev pub pattern_words : PatternFault → List ℕ
-pattern_words (DoubleStar unit) = codes "bad pattern: a star follows a star"
-pattern_words (StarQuestion unit) = codes "bad pattern: a question mark follows a star"
-pattern_words TooLong = codes "bad pattern: more than 256 UTF-16 units"
+-- words and a number, and again words and a number
+abbrev pub two_text : List ℕ → ℕ → List ℕ → ℕ → List ℕ
+two_text before first between second = before ++ decimal first ++ between ++ decimal second

@@ -85,7 +85,7 @@ reply_text (Word n value) = two_text (codes "its extended word ") n (codes " is 
 
 abbrev pub own_text : OwnDue → List ℕ
 own_text CallMark = codes "the mark is not that of a call"
-own_text (Decision tag v) = codes "the call is " ++ call_word tag ++ codes ", and " ++ verdict_text v
+own_text (Decision tag v) = codes "the call is " ++ call_word tag ++ codes " with the arguments of the script, and " ++ verdict_text v
 own_text (Later thread at) =
     two_text (codes "an earlier entry is that of the call of thread ") thread (codes " at place ") at ++ codes " or of a later one"
 

@@ -1,11 +1,12 @@
 -- The message of a fault of a text.
-use Rattle.std.specs.Prelude.{ℕ, suc, zero, List, [], ◌∷◌, ◌++◌, codes}
+use Rattle.std.specs.Prelude.{◌≡◌, ℕ, suc, zero, Bool, true, List, [], ◌∷◌, ◌++◌, codes}
 use Rattle.std.specs.Fmt.{decimal}
 use Rattle.sb_message.specs.declared.messages.FaultyText.{FaultyText}
 use Rattle.sb_message.specs.declared.messages.FaultyText.TheVariants.{Policy, Script, Schedule, Links, Moves}
 use Rattle.sb_message.specs.declared.messages.TextFault.{TextFault}
 use Rattle.sb_glyphs.specs.Glyphs.{shown_bytes}
-use Rattle.sb_message.specs.Places.{shown_line}
+use Rattle.sb_message.specs.Causes.{HasNumbers, are_words, cause_text}
+use Rattle.sb_message.specs.Places.{named_at, shown_line}
 
 -- the name of a text
 abbrev pub text_word : FaultyText → List ℕ
@@ -38,3 +39,12 @@ message_with fault cause file lines = first_line fault cause ++ place_line file 
 -- the message of a fault of a text: what is wrong, the place, and the line with a caret
 abbrev pub fault_message : TextFault → List ℕ → List ℕ → List ℕ → List ℕ
 fault_message fault cause file line = message_with fault cause file (shown_line fault.text fault.column line)
+
+-- A text is a message of this fault, with the line that has it: what is wrong, in words with these numbers between them; the token at the fault, if it is
+-- named; what may stand there, in words; the place, and the line with a caret
+pub record IsMessage (fault : TextFault) (numbers : List ℕ) (names_token : Bool) (file line text : List ℕ) : Type 0 where
+  pub words : List ℕ
+  pub hint : List ℕ
+  pub numbered : HasNumbers numbers words
+  pub plain : are_words hint ≡ true
+  pub is : text ≡ fault_message fault (cause_text words names_token (named_at fault.text fault.column line) hint) file line

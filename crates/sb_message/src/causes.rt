@@ -1,6 +1,6 @@
 // What is wrong, in words.
-ghost use Rattle.std.specs.Prelude.{◌≡◌, ◌++◌, IfOk, OnOk, string_bytes};
-ghost use Rattle.sb_message.specs.Causes.{cause_text, two_text, no_target_text, word_words, names_word, pattern_words};
+ghost use Rattle.std.specs.Prelude.{◌≡◌, ◌++◌, ◌∷◌, [], true, IfOk, OnOk, string_bytes};
+ghost use Rattle.sb_message.specs.Causes.{HasNumbers, are_words, cause_text, two_text, names_word};
 
 use sb_base::NoMemory;
 use sb_glyphs::put_decimal_text;
@@ -16,20 +16,22 @@ pub(crate) fn put_words(out: &mut String, words: &str) -> Result<(), NoMemory>
     Ok(())
 }
 
-/// Words, and after them the token if they name it.
+/// Words, after them the token if they name it, and what may stand there.
 pub(crate) fn cause_text(
     alloc: Global,
     words: &str,
     names_token: bool,
     named: &str,
+    hint: &str,
 ) -> Result<String, NoMemory>
-    ensures { IfOk result (λ cause. string_bytes cause ≡ cause_text words.now names_token named.now) }
+    ensures { IfOk result (λ cause. string_bytes cause ≡ cause_text words.now names_token named.now hint.now) }
 {
     let mut cause = String::new(alloc);
     cause.push_str(words)?;
     if names_token {
         cause.push_str(named)?;
     }
+    cause.push_str(hint)?;
     Ok(cause)
 }
 
@@ -49,16 +51,60 @@ pub(crate) fn put_two(
     put_decimal_text(out, second)
 }
 
-/// Appends that a script does not have this target, and how many it has.
-pub(crate) fn put_no_target(out: &mut String, target: u64, targets: u64) -> Result<(), NoMemory>
-    ensures { OnOk result (string_bytes out.new ≡ string_bytes out.old ++ no_target_text target targets) }
+/// Words, with two numbers between them.
+pub(crate) fn with_two(
+    alloc: Global,
+    before: &str,
+    first: u64,
+    between: &str,
+    second: u64,
+    after: &str,
+) -> Result<String, NoMemory>
+    requires before { are_words before.now ≡ true }
+    requires between { are_words between.now ≡ true }
+    requires after { are_words after.now ≡ true }
+    ensures { IfOk result (λ words. HasNumbers (first ∷ second ∷ []) (string_bytes words)) }
 {
-    put_two(out, "no such target ", target, ": the script has ", targets)
+    let mut words = String::new(alloc);
+    put_two(&mut words, before, first, between, second)?;
+    words.push_str(after)?;
+    Ok(words)
+}
+
+/// That a script does not have this target, and how many it has.
+pub(crate) fn no_target(alloc: Global, target: u64, targets: u64) -> Result<String, NoMemory>
+    ensures { IfOk result (λ words. HasNumbers (target ∷ targets ∷ []) (string_bytes words)) }
+{
+    with_two(
+        alloc,
+        "no such target ",
+        target,
+        ": the script has ",
+        targets,
+        "",
+    )
+}
+
+/// That a number is not in this range, before that number.
+pub(crate) fn not_in_range(alloc: Global, low: u64, high: u64) -> Result<String, NoMemory>
+    ensures { IfOk result (λ words. HasNumbers (low ∷ high ∷ []) (string_bytes words)) }
+{
+    with_two(alloc, "not a number from ", low, " to ", high, ": ")
+}
+
+/// Words alone.
+pub(crate) fn alone(alloc: Global, words: &str) -> Result<String, NoMemory>
+    requires { are_words words.now ≡ true }
+    ensures { IfOk result (λ text. are_words (string_bytes text) ≡ true) }
+{
+    let mut text = String::new(alloc);
+    text.push_str(words)?;
+    Ok(text)
 }
 
 /// Why a token is not the word that is due.
 pub(crate) fn word_words(fault: WordFault) -> &'static str
-    ensures { result.now ≡ word_words fault }
+    ensures { are_words result.now ≡ true }
 {
     match fault {
         WordFault::Unknown => "unknown word ",
@@ -82,7 +128,7 @@ pub(crate) fn names_word(fault: WordFault) -> bool
 
 /// Why a text is no pattern.
 pub(crate) fn pattern_words(fault: PatternFault) -> &'static str
-    ensures { result.now ≡ pattern_words fault }
+    ensures { are_words result.now ≡ true }
 {
     match fault {
         PatternFault::DoubleStar(_) => "bad pattern: a star follows a star",

@@ -263,7 +263,13 @@ fn put_judged(
 fn put_decision(out: &mut String, tag: CallTag, verdict: Verdict) -> Result<(), NoMemory>
     ensures { OnOk result (string_bytes out.new ≡ string_bytes out.old ++ own_text (Decision tag verdict)) }
 {
-    put_judged(out, "the call is ", tag, ", and ", verdict)
+    put_judged(
+        out,
+        "the call is ",
+        tag,
+        " with the arguments of the script, and ",
+        verdict,
+    )
 }
 
 // Appends that a call of a thread, or a later one, has its entry.

@@ -1,9 +1,10 @@
 // The messages of ends that are not the fault of a text.
 ghost use Rattle.std.specs.Prelude.{◌≡◌, ◌++◌, codes, OnOk, IfOk, string_bytes};
-ghost use Rattle.sb_message.specs.EndMessages.{numbers_text, file_text, end_text, end_message};
+ghost use Rattle.sb_message.specs.EndMessages.{cause_words, length_words, numbers_text, file_text, end_text, end_message};
 
 use sb_base::NoMemory;
 use sb_glyphs::{put_decimal_text, put_shown};
+use sb_outside::ReadCause;
 use std::alloc::Global;
 
 /// How a command ended, if neither well nor by the fault of a text. Files are numbered by their place in the command, from 1.
@@ -13,12 +14,14 @@ pub enum EndFault {
     Unfinished { target: u32, thread: u32 },
     /// There is no such file.
     Missing { which: u8 },
-    /// The file has more bytes than are read.
+    /// The file has more than 4194304 bytes, or as a transcript more than 536870912.
     TooLong { which: u8 },
-    /// The file cannot be read.
-    ReadFault { which: u8 },
+    /// The file cannot be read, for this cause.
+    ReadFault { which: u8, cause: ReadCause },
     /// The output cannot be written.
     WriteFault,
+    /// The output is full, and does not wait.
+    OutputFull,
     /// Out of memory.
     NoMemory,
 }
@@ -81,9 +84,20 @@ fn put_missing(out: &mut String, which: u8, file: &[u8]) -> Result<(), NoMemory>
     put_file(out, "missing file ", which, ": ", file, " does not exist")
 }
 
+// How many bytes a file may have: the third of a command may be a transcript.
+fn length_words(which: u8) -> &'static str
+    ensures { result.now ≡ length_words which }
+{
+    if which < 3 {
+        " has more than 4194304 bytes"
+    } else {
+        " has more than 4194304 bytes, or as a transcript more than 536870912"
+    }
+}
+
 fn put_too_long(out: &mut String, which: u8, file: &[u8]) -> Result<(), NoMemory>
     ensures { OnOk result (string_bytes out.new ≡ string_bytes out.old
-        ++ file_text (codes "file ") which (codes " too long: ") file.now (codes " has more bytes than are read")) }
+        ++ file_text (codes "file ") which (codes " too long: ") file.now (length_words which)) }
 {
     put_file(
         out,
@@ -91,12 +105,30 @@ fn put_too_long(out: &mut String, which: u8, file: &[u8]) -> Result<(), NoMemory
         which,
         " too long: ",
         file,
-        " has more bytes than are read",
+        length_words(which),
     )
 }
 
-fn put_read_fault(out: &mut String, which: u8, file: &[u8]) -> Result<(), NoMemory>
-    ensures { OnOk result (string_bytes out.new ≡ string_bytes out.old ++ file_text (codes "read fault in file ") which (codes ": ") file.now (codes " cannot be read")) }
+// What the system says of a file that cannot be read.
+fn cause_words(cause: ReadCause) -> &'static str
+    ensures { result.now ≡ cause_words cause }
+{
+    match cause {
+        ReadCause::Directory => " cannot be read: it is a directory",
+        ReadCause::Denied => " cannot be read: permission denied",
+        ReadCause::NoDirectory => " cannot be read: a part of its path is no directory",
+        ReadCause::Loop => " cannot be read: its path has too many links",
+        ReadCause::Other => " cannot be read",
+    }
+}
+
+fn put_read_fault(
+    out: &mut String,
+    which: u8,
+    cause: ReadCause,
+    file: &[u8],
+) -> Result<(), NoMemory>
+    ensures { OnOk result (string_bytes out.new ≡ string_bytes out.old ++ file_text (codes "read fault in file ") which (codes ": ") file.now (cause_words cause)) }
 {
     put_file(
         out,
@@ -104,7 +136,7 @@ fn put_read_fault(out: &mut String, which: u8, file: &[u8]) -> Result<(), NoMemo
         which,
         ": ",
         file,
-        " cannot be read",
+        cause_words(cause),
     )
 }
 
@@ -115,8 +147,11 @@ fn put_end_text(out: &mut String, fault: EndFault, file: &[u8]) -> Result<(), No
         EndFault::Unfinished { target, thread } => put_unfinished(out, target, thread),
         EndFault::Missing { which } => put_missing(out, which, file),
         EndFault::TooLong { which } => put_too_long(out, which, file),
-        EndFault::ReadFault { which } => put_read_fault(out, which, file),
+        EndFault::ReadFault { which, cause } => put_read_fault(out, which, cause, file),
         EndFault::WriteFault => Ok(out.push_str("write fault: standard output cannot be written")?),
+        EndFault::OutputFull => {
+            Ok(out.push_str("write fault: standard output is full, and does not wait")?)
+        }
         EndFault::NoMemory => Ok(out.push_str("no memory: out of memory")?),
     }
 }

@@ -6,6 +6,7 @@ mod audit_messages;
 mod causes;
 mod due_texts;
 mod end_messages;
+mod hints;
 mod link_messages;
 mod message_laws;
 mod messages;

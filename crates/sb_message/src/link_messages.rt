@@ -1,17 +1,19 @@
 // The messages of files of links.
-ghost use Rattle.std.specs.Prelude.{◌≡◌, IfOk, string_bytes};
-ghost use Rattle.sb_message.specs.LinkMessages.{link_words, link_names, link_message};
+ghost use Rattle.std.specs.Prelude.{◌≡◌, true, IfOk, string_bytes};
+ghost use Rattle.sb_message.specs.Causes.{are_words};
+ghost use Rattle.sb_message.specs.LinkMessages.{IsLinkMessage, link_names};
 
-use crate::causes::{names_word, word_words};
-use crate::messages::{FaultyText, TextFault};
-use crate::places::fault_message;
+use crate::causes::{cause_text, names_word, word_words};
+use crate::hints::{link_lines, link_name_hint, mark_hint, token_hint};
+use crate::messages::{FaultyText, TextFault, text_message};
+use crate::places::shown_place;
 use sb_base::NoMemory;
 use sb_link::{LinkFault, LinkKind};
 use sb_text::WordFault;
 use std::alloc::Global;
 
 fn link_words(kind: LinkKind) -> &'static str
-    ensures { result.now ≡ link_words kind }
+    ensures { are_words result.now ≡ true }
 {
     match kind {
         LinkKind::NotUtf8 => "the text is not UTF-8",
@@ -33,18 +35,34 @@ fn link_names(kind: LinkKind) -> bool
     }
 }
 
+// What may stand there.
+fn link_hint(kind: LinkKind, named: &str) -> &'static str
+    ensures { are_words result.now ≡ true }
+{
+    match kind {
+        LinkKind::UnknownWord(WordFault::NoVersion) => mark_hint(named),
+        LinkKind::UnknownWord(WordFault::Unknown | WordFault::Missing | WordFault::Extra) => {
+            link_lines()
+        }
+        LinkKind::UnknownWord(fault) => token_hint(fault),
+        LinkKind::BadName => link_name_hint(named),
+        LinkKind::NotUtf8 | LinkKind::SameName | LinkKind::TooMany => "",
+    }
+}
+
 /// The message of the fault of a file of links: what is wrong, the place in the file, whose name is as the user gave it, and the line that has the
 /// fault with a caret under its column. `line` is that line without its line end; it may be empty if the column is 0.
 ///
 /// # Errors
 /// `NoMemory` if there was none for the message.
+#[tactic(auto, using(crate::proofs::Numbered::told))]
 pub fn link_message(
     alloc: Global,
     file: &[u8],
     fault: LinkFault,
     line: &[u8],
 ) -> Result<String, NoMemory>
-    ensures { IfOk result (λ message. string_bytes message ≡ link_message file.now fault line.now) }
+    ensures { IfOk result (λ message. IsLinkMessage file.now fault line.now (string_bytes message)) }
 {
     let place = TextFault {
         text: FaultyText::Links,
@@ -52,12 +70,16 @@ pub fn link_message(
         column: fault.column,
         kind: fault.kind.number(),
     };
-    fault_message(
+    let shown = shown_place(alloc, place.text, place.column, line)?;
+    let named = shown.named.as_str();
+    let hint = link_hint(fault.kind, named);
+    let cause = cause_text(
         alloc,
-        place,
         link_words(fault.kind),
         link_names(fault.kind),
-        file,
-        line,
-    )
+        named,
+        hint,
+    )?;
+    let message = text_message(alloc, place, cause.as_str(), file, shown.lines.as_str())?;
+    Ok(message)
 }

@@ -2,11 +2,9 @@
 ghost use Rattle.std.specs.Prelude.{◌≡◌, ◌-◌, ◌++◌, take, drop, IfOk, OnOk, string_bytes};
 ghost use Rattle.sb_glyphs.specs.Excerpts.{excerpt_lines_in};
 ghost use Rattle.sb_message.specs.Places.{place_of, named_at, if_column, shown_line};
-ghost use Rattle.sb_message.specs.Causes.{cause_text};
-ghost use Rattle.sb_message.specs.Messages.{fault_message, place_line};
+ghost use Rattle.sb_message.specs.Messages.{place_line};
 
-use crate::causes::cause_text;
-use crate::messages::{FaultyText, TextFault, put_place_line, text_message};
+use crate::messages::{FaultyText, put_place_line};
 use sb_base::NoMemory;
 use sb_glyphs::{
     Glyph, MAX_GLYPHS, MAX_NEAR, count_glyphs, first_glyphs_of, glyph_count, put_excerpt_lines,
@@ -95,24 +93,6 @@ pub(crate) fn shown_place(
     let mut lines = String::new(alloc);
     put_lines(&mut lines, column, skipped > 0, place - skipped, &near)?;
     Ok(ShownPlace { named, lines })
-}
-
-/// The message of a fault of a text: these words say what is wrong, and the token at the fault follows them if they name it. `line` is the line with the
-/// fault, without its line end.
-pub(crate) fn fault_message(
-    alloc: Global,
-    fault: TextFault,
-    words: &str,
-    names_token: bool,
-    file: &[u8],
-    line: &[u8],
-) -> Result<String, NoMemory>
-    ensures { IfOk result (λ message. string_bytes message
-        ≡ fault_message fault (cause_text words.now names_token (named_at fault.text fault.column line.now)) file.now line.now) }
-{
-    let shown = shown_place(alloc, fault.text, fault.column, line)?;
-    let cause = cause_text(alloc, words, names_token, shown.named.as_str())?;
-    text_message(alloc, fault, cause.as_str(), file, shown.lines.as_str())
 }
 
 /// Appends a place of a text file, whose name is as the user gave it: `  --> FILE:NUMBER:COLUMN`, the line, which has this number, from 1, and a caret

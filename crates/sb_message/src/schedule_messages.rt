@@ -1,17 +1,19 @@
 // The messages of schedule texts.
-ghost use Rattle.std.specs.Prelude.{◌≡◌, IfOk, string_bytes};
-ghost use Rattle.sb_message.specs.ScheduleMessages.{schedule_words, schedule_names, schedule_message};
+ghost use Rattle.std.specs.Prelude.{◌≡◌, true, IfOk, string_bytes};
+ghost use Rattle.sb_message.specs.Causes.{HasNumbers, are_words};
+ghost use Rattle.sb_message.specs.ScheduleMessages.{IsScheduleMessage, schedule_names, schedule_numbers};
 
-use crate::causes::{names_word, word_words};
-use crate::messages::{FaultyText, TextFault};
-use crate::places::fault_message;
+use crate::causes::{alone, cause_text, names_word, not_in_range, word_words};
+use crate::hints::{mark_hint, schedule_lines};
+use crate::messages::{FaultyText, TextFault, text_message};
+use crate::places::shown_place;
 use sb_base::NoMemory;
 use sb_scripttext::{ScheduleFault, ScheduleKind};
 use sb_text::WordFault;
 use std::alloc::Global;
 
-fn schedule_words(kind: ScheduleKind) -> &'static str
-    ensures { result.now ≡ schedule_words kind }
+fn plain_words(kind: ScheduleKind) -> &'static str
+    ensures { are_words result.now ≡ true }
 {
     match kind {
         ScheduleKind::UnknownWord(WordFault::Misplaced) => "no line may follow the rounds",
@@ -20,9 +22,24 @@ fn schedule_words(kind: ScheduleKind) -> &'static str
         }
         ScheduleKind::UnknownWord(fault) => word_words(fault),
         ScheduleKind::UnknownActor => "no such actor ",
-        ScheduleKind::BadNumber => "bad number ",
+        ScheduleKind::BadNumber | ScheduleKind::OutOfRange { .. } => "bad number ",
         ScheduleKind::TooMany => "more than 100000 steps",
         ScheduleKind::NoRounds => "there is no line rounds",
+    }
+}
+
+fn schedule_words(alloc: Global, kind: ScheduleKind) -> Result<String, NoMemory>
+    ensures { IfOk result (λ words. HasNumbers (schedule_numbers kind) (string_bytes words)) }
+{
+    match kind {
+        ScheduleKind::OutOfRange { low, high } => {
+            not_in_range(alloc, u64::from(low), u64::from(high))
+        }
+        ScheduleKind::UnknownWord(_)
+        | ScheduleKind::UnknownActor
+        | ScheduleKind::BadNumber
+        | ScheduleKind::TooMany
+        | ScheduleKind::NoRounds => alone(alloc, plain_words(kind)),
     }
 }
 
@@ -34,7 +51,21 @@ fn schedule_names(kind: ScheduleKind) -> bool
         | ScheduleKind::TooMany
         | ScheduleKind::NoRounds => false,
         ScheduleKind::UnknownWord(fault) => names_word(fault),
-        ScheduleKind::UnknownActor | ScheduleKind::BadNumber => true,
+        ScheduleKind::UnknownActor | ScheduleKind::BadNumber | ScheduleKind::OutOfRange { .. } =>
+            true,
+    }
+}
+
+// That a byte order mark precedes the first line, if this is its first token.
+fn schedule_hint(kind: ScheduleKind, named: &str) -> &'static str
+    ensures { are_words result.now ≡ true }
+{
+    match kind {
+        ScheduleKind::UnknownWord(WordFault::NoVersion) => mark_hint(named),
+        ScheduleKind::UnknownWord(WordFault::Unknown | WordFault::Missing | WordFault::Extra) => {
+            schedule_lines()
+        }
+        _ => "",
     }
 }
 
@@ -43,13 +74,14 @@ fn schedule_names(kind: ScheduleKind) -> bool
 ///
 /// # Errors
 /// `NoMemory` if there was none for the message.
+#[tactic(auto, using(crate::proofs::Numbered::told))]
 pub fn schedule_message(
     alloc: Global,
     file: &[u8],
     fault: ScheduleFault,
     line: &[u8],
 ) -> Result<String, NoMemory>
-    ensures { IfOk result (λ message. string_bytes message ≡ schedule_message file.now fault line.now) }
+    ensures { IfOk result (λ message. IsScheduleMessage file.now fault line.now (string_bytes message)) }
 {
     let place = TextFault {
         text: FaultyText::Schedule,
@@ -57,12 +89,17 @@ pub fn schedule_message(
         column: fault.column,
         kind: fault.kind.number(),
     };
-    fault_message(
+    let shown = shown_place(alloc, place.text, place.column, line)?;
+    let named = shown.named.as_str();
+    let words = schedule_words(alloc, fault.kind)?;
+    let hint = schedule_hint(fault.kind, named);
+    let cause = cause_text(
         alloc,
-        place,
-        schedule_words(fault.kind),
+        words.as_str(),
         schedule_names(fault.kind),
-        file,
-        line,
-    )
+        named,
+        hint,
+    )?;
+    let message = text_message(alloc, place, cause.as_str(), file, shown.lines.as_str())?;
+    Ok(message)
 }

@@ -1,8 +1,12 @@
 // The messages of script texts.
-ghost use Rattle.std.specs.Prelude.{◌≡◌, ◌++◌, codes, OnOk, IfOk, string_bytes};
-ghost use Rattle.sb_message.specs.ScriptMessages.{limit_words, place_words, argument_words, start_words, three_text, kind_words, script_words, script_names, script_cause, script_message};
+ghost use Rattle.std.specs.Prelude.{◌≡◌, ◌∷◌, [], true, IfOk, string_bytes};
+ghost use Rattle.sb_message.specs.Causes.{HasNumbers, are_words};
+ghost use Rattle.sb_message.specs.ScriptMessages.{IsScriptMessage, script_names, script_numbers};
 
-use crate::causes::{names_word, put_no_target, put_two, put_words, word_words};
+use crate::causes::{alone, cause_text, names_word, no_target, not_in_range, put_two, word_words};
+use crate::hints::{
+    block_hint, call_hint, form_hint, mark_hint, name_hint, script_word_hint, token_hint,
+};
 use crate::messages::{FaultyText, TextFault, text_message};
 use crate::places::shown_place;
 use sb_base::NoMemory;
@@ -12,7 +16,7 @@ use sb_text::WordFault;
 use std::alloc::Global;
 
 fn limit_words(limit: ScriptLimit) -> &'static str
-    ensures { result.now ≡ limit_words limit }
+    ensures { are_words result.now ≡ true }
 {
     match limit {
         ScriptLimit::Openings => "more than 4096 opening lines",
@@ -24,7 +28,7 @@ fn limit_words(limit: ScriptLimit) -> &'static str
 
 // Where a line that begins with this word may be; the word is between quotes.
 fn place_words(word: &str) -> &'static str
-    ensures { result.now ≡ place_words word.now }
+    ensures { are_words result.now ≡ true }
 {
     match word {
         "\"thread\"" => "only after a target line: ",
@@ -36,7 +40,7 @@ fn place_words(word: &str) -> &'static str
 }
 
 fn argument_words(fault: WordFault) -> &'static str
-    ensures { result.now ≡ argument_words fault }
+    ensures { are_words result.now ≡ true }
 {
     match fault {
         WordFault::Missing => "an argument is missing",
@@ -46,7 +50,7 @@ fn argument_words(fault: WordFault) -> &'static str
 
 // Why an opening line cannot be placed.
 fn start_words(fault: StartFault) -> &'static str
-    ensures { result.now ≡ start_words fault }
+    ensures { are_words result.now ≡ true }
 {
     match fault {
         StartFault::NameTaken => "an earlier line has this name: ",
@@ -55,55 +59,31 @@ fn start_words(fault: StartFault) -> &'static str
     }
 }
 
-// Appends words and a number, three times.
-fn put_three(
-    out: &mut String,
-    before: &str,
-    first: u64,
-    between: &str,
-    second: u64,
-    after: &str,
-    third: u64,
-) -> Result<(), NoMemory>
-    ensures { OnOk result (string_bytes out.new ≡ string_bytes out.old ++ three_text before.now first between.now second after.now third) }
+// That a target does not have this channel, and how many it has.
+fn no_channel(alloc: Global, channel: u64, target: u64, channels: u64) -> Result<String, NoMemory>
+    ensures { IfOk result (λ words. HasNumbers (channel ∷ target ∷ channels ∷ []) (string_bytes words)) }
 {
-    put_two(out, before, first, between, second)?;
-    out.push_str(after)?;
-    put_decimal_text(out, third)
+    let mut words = String::new(alloc);
+    put_two(&mut words, "no such channel ", channel, ": target ", target)?;
+    words.push_str(" has ")?;
+    put_decimal_text(&mut words, channels)?;
+    Ok(words)
 }
 
-fn put_no_channel(
-    out: &mut String,
-    channel: u64,
-    target: u64,
-    channels: u64,
-) -> Result<(), NoMemory>
-    ensures { OnOk result (string_bytes out.new ≡ string_bytes out.old
-        ++ three_text (codes "no such channel ") channel (codes ": target ") target (codes " has ") channels) }
-{
-    put_three(
-        out,
-        "no such channel ",
-        channel,
-        ": target ",
-        target,
-        " has ",
-        channels,
-    )
-}
-
-fn kind_words(kind: ScriptKind) -> &'static str
-    ensures { result.now ≡ kind_words kind }
+// What is wrong, of a fault at this token, if no number is told.
+fn plain_words(kind: ScriptKind, named: &str) -> &'static str
+    ensures { are_words result.now ≡ true }
 {
     match kind {
         ScriptKind::NotUtf8 => "the text is not UTF-8",
         ScriptKind::UnknownWord(WordFault::NoVersion) => {
             "the first line has to be sandbox-script 1"
         }
+        ScriptKind::UnknownWord(WordFault::Misplaced) => place_words(named),
         ScriptKind::UnknownWord(fault) => word_words(fault),
         ScriptKind::UnknownCall => "unknown call ",
         ScriptKind::WrongArgs(fault) => argument_words(fault),
-        ScriptKind::BadNumber => "bad number ",
+        ScriptKind::BadNumber | ScriptKind::OutOfRange { .. } => "bad number ",
         ScriptKind::BadName => "bad name ",
         ScriptKind::NoSuchPolicy => "no such policy ",
         ScriptKind::NoSuchTarget { .. } => "no such target",
@@ -116,20 +96,17 @@ fn kind_words(kind: ScriptKind) -> &'static str
     }
 }
 
-// Appends what is wrong, of a fault at this token.
-fn put_script_words(out: &mut String, kind: ScriptKind, named: &str) -> Result<(), NoMemory>
-    ensures { OnOk result (string_bytes out.new ≡ string_bytes out.old ++ script_words kind named.now) }
+fn script_words(alloc: Global, kind: ScriptKind, named: &str) -> Result<String, NoMemory>
+    ensures { IfOk result (λ words. HasNumbers (script_numbers kind) (string_bytes words)) }
 {
     match kind {
-        ScriptKind::UnknownWord(WordFault::Misplaced) => put_words(out, place_words(named)),
-        ScriptKind::NoSuchTarget { target, targets } => {
-            put_no_target(out, target, targets as u64)
-        }
+        ScriptKind::OutOfRange { low, high } => not_in_range(alloc, low, high),
+        ScriptKind::NoSuchTarget { target, targets } => no_target(alloc, target, targets as u64),
         ScriptKind::NoSuchChannel {
             channel,
             target,
             channels,
-        } => put_no_channel(out, channel, u64::from(target), u64::from(channels)),
+        } => no_channel(alloc, channel, u64::from(target), u64::from(channels)),
         ScriptKind::NotUtf8
         | ScriptKind::UnknownWord(_)
         | ScriptKind::UnknownCall
@@ -141,7 +118,7 @@ fn put_script_words(out: &mut String, kind: ScriptKind, named: &str) -> Result<(
         | ScriptKind::TooMany(_)
         | ScriptKind::TooBig
         | ScriptKind::SameName
-        | ScriptKind::BadStart(_) => put_words(out, kind_words(kind)),
+        | ScriptKind::BadStart(_) => alone(alloc, plain_words(kind, named)),
     }
 }
 
@@ -157,6 +134,7 @@ fn script_names(kind: ScriptKind) -> bool
         ScriptKind::UnknownWord(fault) | ScriptKind::WrongArgs(fault) => names_word(fault),
         ScriptKind::UnknownCall
         | ScriptKind::BadNumber
+        | ScriptKind::OutOfRange { .. }
         | ScriptKind::BadName
         | ScriptKind::NoSuchPolicy
         | ScriptKind::NoSuchWord
@@ -165,15 +143,41 @@ fn script_names(kind: ScriptKind) -> bool
     }
 }
 
-fn script_cause(alloc: Global, kind: ScriptKind, named: &str) -> Result<String, NoMemory>
-    ensures { IfOk result (λ cause. string_bytes cause ≡ script_cause kind named.now) }
+// That a policy is in place of a script, or that a byte order mark precedes it, if this is its first token.
+fn exchanged_script(named: &str) -> &'static str
+    ensures { are_words result.now ≡ true }
 {
-    let mut cause = String::new(alloc);
-    put_script_words(&mut cause, kind, named)?;
-    if script_names(kind) {
-        cause.push_str(named)?;
+    match named {
+        "\"sandbox-policy\"" => ": this is a policy, and the script comes after it",
+        _ => mark_hint(named),
     }
-    Ok(cause)
+}
+
+// What may stand there.
+fn script_hint(kind: ScriptKind, named: &str, line: &[u8]) -> &'static str
+    ensures { are_words result.now ≡ true }
+{
+    match kind {
+        ScriptKind::UnknownWord(WordFault::NoVersion) => exchanged_script(named),
+        ScriptKind::UnknownWord(WordFault::Unknown) => script_word_hint(line),
+        ScriptKind::UnknownWord(WordFault::Missing | WordFault::Extra)
+        | ScriptKind::WrongArgs(WordFault::Missing | WordFault::Extra) => form_hint(line),
+        ScriptKind::UnknownWord(fault) => token_hint(fault),
+        ScriptKind::UnknownCall => call_hint(),
+        ScriptKind::BadName => name_hint(named),
+        ScriptKind::TooBig => block_hint(line),
+        ScriptKind::NotUtf8
+        | ScriptKind::WrongArgs(_)
+        | ScriptKind::BadNumber
+        | ScriptKind::OutOfRange { .. }
+        | ScriptKind::NoSuchPolicy
+        | ScriptKind::NoSuchTarget { .. }
+        | ScriptKind::NoSuchChannel { .. }
+        | ScriptKind::NoSuchWord
+        | ScriptKind::TooMany(_)
+        | ScriptKind::SameName
+        | ScriptKind::BadStart(_) => "",
+    }
 }
 
 /// The message of the fault of a script file: what is wrong, the place in the file, whose name is as the user gave it, and the line that has the fault
@@ -181,13 +185,14 @@ fn script_cause(alloc: Global, kind: ScriptKind, named: &str) -> Result<String, 
 ///
 /// # Errors
 /// `NoMemory` if there was none for the message.
+#[tactic(auto, using(crate::proofs::Numbered::told))]
 pub fn script_message(
     alloc: Global,
     file: &[u8],
     fault: ScriptFault,
     line: &[u8],
 ) -> Result<String, NoMemory>
-    ensures { IfOk result (λ message. string_bytes message ≡ script_message file.now fault line.now) }
+    ensures { IfOk result (λ message. IsScriptMessage file.now fault line.now (string_bytes message)) }
 {
     let place = TextFault {
         text: FaultyText::Script,
@@ -196,6 +201,10 @@ pub fn script_message(
         kind: fault.kind.number(),
     };
     let shown = shown_place(alloc, place.text, place.column, line)?;
-    let cause = script_cause(alloc, fault.kind, shown.named.as_str())?;
-    text_message(alloc, place, cause.as_str(), file, shown.lines.as_str())
+    let named = shown.named.as_str();
+    let words = script_words(alloc, fault.kind, named)?;
+    let hint = script_hint(fault.kind, named, line);
+    let cause = cause_text(alloc, words.as_str(), script_names(fault.kind), named, hint)?;
+    let message = text_message(alloc, place, cause.as_str(), file, shown.lines.as_str())?;
+    Ok(message)
 }

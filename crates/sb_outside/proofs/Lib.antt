@@ -1,4 +1,4 @@
 pub mod Passing
 pub mod Prefixes
-pub mod Wholes
+pub mod Reading
 pub mod Written

@@ -1,3 +1,4 @@
+pub mod Disks
 pub mod Hosts
 pub mod MemFiles
 pub mod MemSink

@@ -8,6 +8,7 @@ use Rattle.sb_outside.specs.declared.mem_files.StoredFile.{StoredFile}
 use Rattle.sb_outside.specs.declared.mem_files.MemFiles.{MemFiles}
 use Rattle.sb_outside.specs.declared.files.FileFault.{FileFault}
 use Rattle.sb_outside.specs.declared.files.FileFault.TheVariants.{Missing, TooLong, Failed, NoMemory}
+use Rattle.sb_outside.specs.declared.files.ReadCause.TheVariants.{Other}
 
 -- the content of the first file of this name
 abbrev pub content_of : List StoredFile → List ℕ → Option (List ℕ)
@@ -25,7 +26,7 @@ found (Some bytes) most = if nat_le (length bytes) most then Ok bytes else Err T
 
 -- what the next call answers, with ample memory
 abbrev pub read_of : MemFiles → List ℕ → ℕ → Result (List ℕ) FileFault
-read_of m name most = if is_failing m then Err Failed else found (content_of m.files name) most
+read_of m name most = if is_failing m then Err (Failed Other) else found (content_of m.files name) most
 
 -- the files after the next call
 abbrev pub after_read : MemFiles → MemFiles

@@ -5,6 +5,21 @@ ghost use Rattle.sb_outside.specs.Outside.{Held, IsContent, IsMissing, IsTooLong
 use std::alloc::Global;
 use thiserror::Error;
 
+/// What the system says of a file that it does not give.
+#[derive(Clone, Copy, Debug)]
+pub enum ReadCause {
+    /// It is a directory.
+    Directory,
+    /// The user may not read it.
+    Denied,
+    /// A part of its path is no directory.
+    NoDirectory,
+    /// Its path has too many links.
+    Loop,
+    /// Anything else.
+    Other,
+}
+
 /// Why a file was not read.
 #[derive(Clone, Copy, Debug, Error)]
 pub enum FileFault {
@@ -14,9 +29,9 @@ pub enum FileFault {
     /// The file has more bytes than were asked for.
     #[error("the file is too long")]
     TooLong,
-    /// The reading failed.
+    /// The opening or the reading failed.
     #[error("the file was not read")]
-    Failed,
+    Failed(ReadCause),
     /// There was no memory for the content.
     #[error("out of memory")]
     NoMemory,
@@ -27,6 +42,8 @@ pub enum FileFault {
 /// What they hold, a content at each name that is there, may be told or not. Their count of faults never falls. A count
 /// that is kept in 64 bits stays at its last value, so one that is there is taken as one that rose.
 pub trait Files {
+    ghost use Rattle.sb_outside.specs.declared.files.ReadCause.{ReadCause};
+
     ghost held: { Self → Option Held };
 
     ghost faults: { Self → ℕ };
@@ -43,7 +60,7 @@ pub trait Files {
         ensures ok { IfOk result (λ bytes. IsContent (held self.old) name.now bytes.items) }
         ensures short { IfOk result (λ bytes. vec_len bytes ≤ most) }
         ensures ok_count { OnOk result (faults self.new ≡ faults self.old) }
-        ensures failed { IsErrOf result FileFault.Failed → Rose (faults self.old) (faults self.new) }
+        ensures failed { (cause : ReadCause) → IsErrOf result (FileFault.Failed cause) → Rose (faults self.old) (faults self.new) }
         ensures missing { IsErrOf result FileFault.Missing
             → IsMissing (held self.old) name.now (Rose (faults self.old) (faults self.new)) }
         ensures too_long { IsErrOf result FileFault.TooLong

@@ -2,17 +2,21 @@
 // exactly, for tests and for callers who have the texts at hand; files of the system and its standard output, for the program.
 #![tactic(auto)]
 
+mod disks;
 mod files;
 mod gate;
+mod host_files;
 mod hosts;
 mod lists;
 mod mem_files;
 mod mem_sink;
 mod sink;
 
-pub use files::{FileFault, Files};
+pub use disks::{Disk, HostDisk};
+pub use files::{FileFault, Files, ReadCause};
 pub use gate::{Gate, OpenGate};
-pub use hosts::{HostFiles, HostSink, PIECE};
+pub use host_files::HostFiles;
+pub use hosts::{HostOutput, HostSink, Output, PIECE};
 pub use lists::{Bytes, Numbers, Text};
 pub use mem_files::{FileList, MemFiles, StoredFile};
 pub use mem_sink::MemSink;

@@ -2,7 +2,7 @@
 ghost use Rattle.std.specs.Prelude.{◌≡◌, ◌≤◌, Some, option_copied};
 ghost use Rattle.sb_outside.specs.MemFiles.{IsAnswer, content_of, found};
 
-use crate::files::{FileFault, Files};
+use crate::files::{FileFault, Files, ReadCause};
 use crate::lists::{Bytes, Numbers, Text};
 use sb_base::Items;
 use std::alloc::Global;
@@ -69,7 +69,7 @@ impl Files for MemFiles {
         self.calls = self.calls.saturating_add(1);
         if self.fails.as_slice().contains(&self.calls) {
             self.faults = self.faults.saturating_add(1);
-            return Err(FileFault::Failed);
+            return Err(FileFault::Failed(ReadCause::Other));
         }
         content_within(alloc, content_of(self.files.as_slice(), name), most)
     }

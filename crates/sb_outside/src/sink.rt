@@ -8,7 +8,13 @@ use thiserror::Error;
 /// Why bytes were not written.
 #[derive(Clone, Copy, Debug, Error)]
 pub enum SinkFault {
-    /// The output did not take all of them.
+    /// The reader of the output has closed it.
+    #[error("the output is closed")]
+    Closed,
+    /// The output is full, and does not wait until there is room.
+    #[error("the output is full")]
+    Full,
+    /// The output did not take all of them, for another reason.
     #[error("the output failed")]
     Failed,
 }
@@ -28,8 +34,8 @@ pub trait Sink {
     /// Appends `bytes` to what is pending, and writes any number of the first bytes of that. It allocates no memory.
     ///
     /// # Errors
-    /// `Failed` only if the count of faults rose in this call. Then a prefix of what was due was written: of what was pending, and then
-    /// `bytes`. What is pending then is not told, so that neither a put nor a finish should follow.
+    /// Why the output did not take all of it, only if the count of faults rose in this call. Then a prefix of what was due was written: of what was
+    /// pending, and then `bytes`. What is pending then is not told, so that neither a put nor a finish should follow.
     fn put(&mut self, bytes: &[u8]) -> Result<(), SinkFault>
         ensures counted { faults self.old ≤ faults self.new }
         ensures ok { OnOk result (GrowsUpTo (written self.old) (pending self.old ++ bytes.now) (written self.new) (pending self.new)) }
@@ -40,7 +46,7 @@ pub trait Sink {
     /// Writes all that is pending. It allocates no memory.
     ///
     /// # Errors
-    /// `Failed` only if the count of faults rose in this call. Then a prefix of what was pending was written.
+    /// Why the output did not take all of it, only if the count of faults rose in this call. Then a prefix of what was pending was written.
     fn finish(&mut self) -> Result<(), SinkFault>
         ensures counted { faults self.old ≤ faults self.new }
         ensures ok { OnOk result (GrowsBy (written self.old) (pending self.old) (written self.new)) }
@@ -53,8 +59,8 @@ pub trait Sink {
 /// Puts each line in turn, one `put` each, and finishes. After a put that failed neither a put nor the finish follows.
 ///
 /// # Errors
-/// `Failed` only if the count of faults rose in this call. Then a prefix of what was due was written: of what was pending, and then
-/// the lines, one after another.
+/// Why the output did not take all of it, only if the count of faults rose in this call. Then a prefix of what was due was written: of what was pending,
+/// and then the lines, one after another.
 #[tactic(auto, using(crate::proofs::Prefixes::none_left))]
 pub fn put_lines<S: Sink>(sink: &mut S, lines: &[Bytes]) -> Result<(), SinkFault>
     ensures counted { S.faults sink.old ≤ S.faults sink.new }
@@ -76,8 +82,8 @@ pub fn put_lines<S: Sink>(sink: &mut S, lines: &[Bytes]) -> Result<(), SinkFault
 /// Puts a text by one `put`, and finishes. After a put that failed the finish does not follow.
 ///
 /// # Errors
-/// `Failed` only if the count of faults rose in this call. Then a prefix of what was due was written: of what was pending, and then the
-/// text.
+/// Why the output did not take all of it, only if the count of faults rose in this call. Then a prefix of what was due was written: of what was pending,
+/// and then the text.
 #[tactic(auto, using(crate::proofs::Prefixes::none_left, crate::proofs::Prefixes::fault_left))]
 pub fn put_text<S: Sink>(sink: &mut S, text: &[u8]) -> Result<(), SinkFault>
     ensures counted { S.faults sink.old ≤ S.faults sink.new }

@@ -9,6 +9,7 @@ use Rattle.sb_base.specs.declared.refusals.Refused.TheVariants as given
 use Rattle.sb_outside.specs.Outside.{Held, IsContent, IsMissing, IsTooLong}
 use Rattle.sb_outside.specs.declared.files.FileFault.{FileFault}
 use Rattle.sb_outside.specs.declared.files.FileFault.TheVariants as file
+use Rattle.sb_outside.specs.declared.files.ReadCause.{ReadCause}
 use Rattle.sb_text.specs.Steps.{◌>>=◌}
 use Rattle.sb_core.specs.declared.runs.Ran.{Ran}
 use Rattle.sb_rule.specs.declared.policies.Policies.{Policies}
@@ -84,11 +85,11 @@ too_long seen most n (Some held) name rose m = ((held name, refl, inl (long_cont
 
 -- and any file that was not read
 pub text_unread : {B : Type 0} (seen : B → List ℕ) (most n : ℕ) (held : Option Held) (name : List ℕ) (rose : Type 0) (fault : FileFault)
-    → (fault ≡ file.Failed → rose) → (fault ≡ file.Missing → IsMissing held name rose) → (fault ≡ file.TooLong → IsTooLong held name most rose)
+    → ((cause : ReadCause) → fault ≡ file.Failed cause → rose) → (fault ≡ file.Missing → IsMissing held name rose) → (fault ≡ file.TooLong → IsTooLong held name most rose)
     → IsRead seen n (text_within most n) held name (Err (refused (status_of fault n))) × IsCaused held rose (status_of fault n)
 text_unread seen most n held name rose file.Missing f m t = missing seen most n held name rose (m refl)
 text_unread seen most n held name rose file.TooLong f m t = too_long seen most n held name rose (t refl)
-text_unread seen most n held name rose file.Failed f m t = ((content_of held name, is_held held name, inr (inl refl)), f refl)
+text_unread seen most n held name rose (file.Failed cause) f m t = ((content_of held name, is_held held name, inr (inl (cause, refl))), f cause refl)
 text_unread seen most n held name rose file.NoMemory f m t = ((content_of held name, is_held held name, inr (inr refl)), tt)
 
 -- ---- what is read of the text

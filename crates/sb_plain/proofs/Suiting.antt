@@ -176,8 +176,8 @@ module _ {G S : Type 0} (e : Effect G S) (o : Outcome) (files : ℕ) where
   suits meaning contents known size (inr (inl u)) =
       let missing : NamesFile files (Missing u.file) =
       subst (RefusesFor files) u.reached (known.refuses (without u.file contents) (length-set contents (u.file - 1) None ∙ size)) in
-      let at : NamesFile files (ReadFault u.file) = missing in
-      subst (Suits files) (sym u.is.status) (named_suits files (ReadFault u.file) at)
+      let at : NamesFile files (ReadFault u.file u.cause) = missing in
+      subst (Suits files) (sym u.is.status) (named_suits files (ReadFault u.file u.cause) at)
   suits meaning contents known size (inr (inr (inl u))) = unwritten_suits (meaning contents) u
   suits meaning contents known size (inr (inr (inr s))) = subst (Suits files) (sym s.status) ((λ fault never. cc), tt)
 

@@ -4,6 +4,7 @@ use Rattle.sb_book.specs.ReadyScripts.{Ready}
 use Rattle.sb_book.specs.declared.reports.Report.{Report}
 use Rattle.sb_core.specs.declared.runs.Ran.{Ran}
 use Rattle.sb_outside.specs.Outside.{Held, Rose}
+use Rattle.sb_outside.specs.declared.files.ReadCause.{ReadCause}
 use Rattle.sb_statements.specs.declared.schedules.Schedule.{Schedule}
 use Rattle.sb_statements.specs.declared.scripts.Script.{Script}
 use Rattle.sb_plain.specs.Contents.{Content, Refusal, refused}
@@ -19,10 +20,14 @@ abbrev pub GivesBy : {A B : Type 0} → (B → A) → Result A Refusal → Resul
 GivesBy seen wanted (Ok x) = wanted ≡ Ok (seen x)
 GivesBy seen wanted (Err refusal) = (wanted ≡ Err refusal) ⊎ (refusal ≡ refused NoMemory)
 
+-- the refusal of file n, which was not read, for some cause
+abbrev pub IsUnreadFile : ℕ → Refusal → Type 0
+IsUnreadFile n refusal = (cause : ReadCause) × (refusal ≡ refused (ReadFault n cause))
+
 -- file n with this content, read by a step: its value was given, as it is seen by this function, or refused; or the file was not read, or there was no memory
 abbrev pub IsReadBy : {A B : Type 0} → (B → A) → ℕ → (Content → Result A Refusal) → Content → Result B Refusal → Type 0
 IsReadBy seen n step content (Ok x) = step content ≡ Ok (seen x)
-IsReadBy seen n step content (Err refusal) = (step content ≡ Err refusal) ⊎ (refusal ≡ refused (ReadFault n)) ⊎ (refusal ≡ refused NoMemory)
+IsReadBy seen n step content (Err refusal) = (step content ≡ Err refusal) ⊎ IsUnreadFile n refusal ⊎ (refusal ≡ refused NoMemory)
 
 -- so it is for some content that the file is known to hold
 abbrev pub IsRead : {A B : Type 0} → (B → A) → ℕ → (Content → Result A Refusal) → Option Held → List ℕ → Result B Refusal → Type 0
@@ -38,8 +43,8 @@ abbrev pub IsOpenedBy : Content → Content → Result Ready Refusal → Type 0
 IsOpenedBy policy script (Ok ready) = opened_of policy script ≡ Ok ready
 IsOpenedBy policy script (Err refusal) =
     (opened_of policy script ≡ Err refusal)
-    ⊎ (refusal ≡ refused (ReadFault 1))
-    ⊎ ((refusal ≡ refused (ReadFault 2)) × (opened_of policy None ≡ Err (refused (Missing 2))))
+    ⊎ IsUnreadFile 1 refusal
+    ⊎ (IsUnreadFile 2 refusal × (opened_of policy None ≡ Err (refused (Missing 2))))
     ⊎ (refusal ≡ refused NoMemory)
 
 -- so it is for some contents that the two files are known to hold
@@ -52,7 +57,7 @@ abbrev pub IsLaterBy : {A : Type 0} → (Contents → Result A Refusal) → Cont
 IsLaterBy step contents (Ok x) = step contents ≡ Ok x
 IsLaterBy step contents (Err refusal) =
     (step contents ≡ Err refusal)
-    ⊎ ((refusal ≡ refused (ReadFault 3)) × (step (without 1 contents) ≡ Err (refused (Missing 3))))
+    ⊎ (IsUnreadFile 3 refusal × (step (without 1 contents) ≡ Err (refused (Missing 3))))
     ⊎ (refusal ≡ refused NoMemory)
 
 abbrev pub IsLater : {A : Type 0} → (Contents → Result A Refusal) → Option Held → List (List ℕ) → Result A Refusal → Type 0
@@ -83,7 +88,7 @@ reported_run script r = record { text = run_text script r r.unfinished; report =
 -- the refusal comes of a file that was reached and could not be read
 abbrev pub IsUnreadFor : (Contents → Result End Refusal) → Contents → Refusal → Type 0
 IsUnreadFor meaning contents refusal =
-    (file : ℕ) × (refusal ≡ refused (ReadFault file)) × (meaning (without file contents) ≡ Err (refused (Missing file)))
+    (file : ℕ) × IsUnreadFile file refusal × (meaning (without file contents) ≡ Err (refused (Missing file)))
 
 -- over files with these contents: the end that the command means, or its refusal; or a file was not read, or there was no memory
 abbrev pub IsFoundFor : (Contents → Result End Refusal) → Contents → Result ReportedEnd Refusal → Type 0

@@ -54,7 +54,7 @@ text_in n content = text_within most_bytes n content
 abbrev pub status_of : FileFault → ℕ → Status
 status_of file.Missing n = Missing n
 status_of file.TooLong n = TooLong n
-status_of file.Failed n = ReadFault n
+status_of (file.Failed cause) n = ReadFault n cause
 status_of file.NoMemory n = NoMemory
 
 -- the policies of a text, or its fault

@@ -4,6 +4,8 @@ use Rattle.sb_outside.specs.Outside.{GrowsBy, GrowsByPrefix, Held, Rose}
 use Rattle.sb_statements.specs.declared.schedules.Schedule.{Schedule}
 use Rattle.sb_commands.specs.Usage.{Fault, fault_of}
 use Rattle.sb_commands.specs.declared.usage_faults.UsageFault.{UsageFault}
+use Rattle.sb_outside.specs.declared.files.ReadCause.{ReadCause}
+use Rattle.sb_outside.specs.declared.sink.SinkFault.{SinkFault}
 use Rattle.sb_plain.specs.Contents.{Refusal, refused}
 use Rattle.sb_plain.specs.Effects.{Effect}
 use Rattle.sb_plain.specs.Ends.{AreContents, Contents, End, IsOrderOf, Meaning, OnThreads, Plain, report_of, without}
@@ -38,13 +40,15 @@ IsMeant (Err refusal) e o = IsRefused refusal e o
 pub record IsUnread {G S : Type 0} (meaning : Contents → Result End Refusal) (contents : Contents) (e : Effect G S) (o : Outcome) : Type 0 where
   pub file : ℕ
   pub reached : meaning (without file contents) ≡ Err (refused (Missing file))
-  pub is : IsRefused (refused (ReadFault file)) e o
+  pub cause : ReadCause
+  pub is : IsRefused (refused (ReadFault file cause)) e o
 
 -- the output failed where the text of this end was due, and a prefix of what was due was written. Its count of faults rose
 pub record IsUnwritten {G S : Type 0} (end : End) (e : Effect G S) (o : Outcome) : Type 0 where
   pub text : List ℕ
   pub due : end.text ≡ Ok text
-  pub status : o.status ≡ WriteFault
+  pub fault : SinkFault
+  pub status : o.status ≡ WriteFault fault
   pub report : o.report ≡ report_of end
   pub shown : o.shown ≡ end.noted
   pub written : GrowsByPrefix e.written (e.pending ++ text) e.written'
@@ -65,7 +69,7 @@ IfUnknown (Some held) P = ⊤
 
 -- that a file was not read comes only if the files' count of faults rose; and so does that one is missing or too long, if it is not known what they hold
 abbrev pub IsCaused : Option Held → Type 0 → Status → Type 0
-IsCaused held rose (ReadFault n) = rose
+IsCaused held rose (ReadFault n cause) = rose
 IsCaused held rose (Missing n) = IfUnknown held rose
 IsCaused held rose (TooLong n) = IfUnknown held rose
 IsCaused held rose status = ⊤

@@ -13,18 +13,18 @@ file_of (MovesRefused fault) = Some 3
 file_of (AuditNo refuted) = Some 3
 file_of (Missing n) = Some n
 file_of (TooLong n) = Some n
-file_of (ReadFault n) = Some n
+file_of (ReadFault n cause) = Some n
 file_of s = None
 
 -- nothing is put with this status
 abbrev pub IsSilent : Status → Type 0
 IsSilent Done = ⊥
-IsSilent WriteFault = ⊥
+IsSilent (WriteFault fault) = ⊥
 IsSilent s = ⊤
 
 -- a status of a command that is not carried out
 abbrev pub IsRefusal : Status → Type 0
 IsRefusal Done = ⊥
 IsRefusal (Unfinished target thread) = ⊥
-IsRefusal WriteFault = ⊥
+IsRefusal (WriteFault fault) = ⊥
 IsRefusal s = ⊤

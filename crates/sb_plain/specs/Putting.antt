@@ -1,6 +1,7 @@
 -- How an end is put.
 use Rattle.std.specs.Prelude.{◌≡◌, ◌⊎◌, List, ℕ, ◌++◌, Option, None, Result, Ok, Err, ⊤}
 use Rattle.sb_outside.specs.Outside.{GrowsBy, GrowsByPrefix, joined}
+use Rattle.sb_outside.specs.declared.sink.SinkFault.{SinkFault}
 use Rattle.sb_plain.specs.Coming.{ReportedEnd}
 use Rattle.sb_plain.specs.Contents.{Refusal}
 use Rattle.sb_plain.specs.Outcomes.{IsSilent}
@@ -28,7 +29,8 @@ EndsSilently (Err status) = IsSilent status
 -- the status of what is put: all of the text, or a prefix of it after which the output failed; or nothing, with the status of the end
 abbrev pub IsPut : Result (List ℕ) Status → Option (List ℕ) → List ℕ → Option (List ℕ) → Type 0 → Status → Type 0
 IsPut (Ok text) before pending after rose status =
-    ((status ≡ Done) × GrowsBy before (pending ++ text) after) ⊎ ((status ≡ WriteFault) × GrowsByPrefix before (pending ++ text) after × rose)
+    ((status ≡ Done) × GrowsBy before (pending ++ text) after)
+    ⊎ ((fault : SinkFault) × (status ≡ WriteFault fault) × GrowsByPrefix before (pending ++ text) after × rose)
 IsPut (Err wanted) before pending after rose status = (status ≡ wanted) × (after ≡ before)
 
 -- what a command comes to was put, or its refusal told

@@ -2,7 +2,7 @@
 ghost use Rattle.std.specs.Prelude.{◌≡◌, ◌≤◌, ◌++◌, [], IfOk, None, Ok, Some};
 ghost use Rattle.sb_outside.specs.Outside.{Rose, joined};
 ghost use Rattle.sb_plain.specs.Outcomes.{IsSilent};
-ghost use Rattle.sb_plain.specs.Putting.{IsPut, bytes_of};
+ghost use Rattle.sb_plain.specs.Putting.{EndsSilently, IsPut, bytes_of, text_of};
 
 use crate::outcomes::{Outcome, Status};
 use crate::shown::Shown;
@@ -42,13 +42,28 @@ impl Lines {
         match self {
             Lines::Texts(texts) => match put_lines(out, texts) {
                 Ok(()) => Status::Done,
-                Err(_) => Status::WriteFault,
+                Err(fault) => Status::WriteFault(fault),
             },
             Lines::Transcript(lines) => match lines.put_each(out) {
                 Ok(()) => Status::Done,
-                Err(_) => Status::WriteFault,
+                Err(fault) => Status::WriteFault(fault),
             },
         }
+    }
+}
+
+// Puts what is to be put, and finishes: the status of that. If a status is in its place, puts nothing and returns that status.
+fn put_if_any<K: Sink>(lines: Result<Lines, Status>, out: &mut K) -> Status
+    requires silent { EndsSilently lines }
+    ensures counted { K.faults out.old ≤ K.faults out.new }
+    ensures put { IsPut (text_of lines) (K.written out.old) (K.pending out.old) (K.written out.new) (Rose (K.faults out.old) (K.faults out.new)) result }
+    ensures loud { IsSilent result → out.new ≡ out.old }
+    ensures done_count { result ≡ Status.Done → K.faults out.new ≡ K.faults out.old }
+    ensures finished { result ≡ Status.Done → K.pending out.new ≡ [] }
+{
+    match lines {
+        Ok(lines) => lines.put(out),
+        Err(status) => status,
     }
 }
 
@@ -149,12 +164,8 @@ impl CommandEnd {
             report,
             noted,
         } = self;
-        let status = match lines {
-            Ok(lines) => lines.put(out),
-            Err(status) => status,
-        };
         Outcome {
-            status,
+            status: put_if_any(lines, out),
             shown: noted,
             report,
         }

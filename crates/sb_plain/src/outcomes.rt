@@ -6,6 +6,7 @@ use sb_book::Report;
 use sb_commands::UsageFault;
 use sb_dup::MoveFault;
 use sb_link::LinkFault;
+use sb_outside::{ReadCause, SinkFault};
 use sb_ruletext::PolicyFault;
 use sb_scripttext::{ScheduleFault, ScriptFault};
 
@@ -34,10 +35,10 @@ pub enum Status {
     Missing { which: u8 },
     /// The file has more than 4,194,304 bytes, or is a transcript of more than 536,870,912.
     TooLong { which: u8 },
-    /// The file was not read.
-    ReadFault { which: u8 },
-    /// Something was not written.
-    WriteFault,
+    /// The file was not read, for this cause.
+    ReadFault { which: u8, cause: ReadCause },
+    /// Something was not written, for this reason.
+    WriteFault(SinkFault),
     /// There was no memory.
     NoMemory,
 }

@@ -31,7 +31,7 @@ fn refused_by(fault: FileFault, which: u8) -> Refused
     match fault {
         FileFault::Missing => Refused::new(Status::Missing { which }),
         FileFault::TooLong => Refused::new(Status::TooLong { which }),
-        FileFault::Failed => Refused::new(Status::ReadFault { which }),
+        FileFault::Failed(cause) => Refused::new(Status::ReadFault { which, cause }),
         FileFault::NoMemory => Refused::new(Status::NoMemory),
     }
 }

@@ -54,7 +54,7 @@ pub(crate) fn transcript_text(
     ensures { IfOk result (λ text. text.items ≡ transcript script.now report.now) }
 {
     let lines = transcript_lines(alloc, script, report)?;
-    Ok(Vec::from_slice(alloc, lines.bytes())?)
+    Ok(lines.into_bytes())
 }
 
 // The run of a script by a schedule, in which calls are judged by the programs of the policies.

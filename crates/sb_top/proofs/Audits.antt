@@ -22,6 +22,8 @@ use Rattle.sb_text.specs.Steps.{◌>>=◌}
 use Rattle.sb_transcript.specs.Lengths.{most_transcript_bytes}
 use Rattle.sb_transcript.specs.Printable.{IsPrintable}
 use Rattle.sb_transcript.specs.Transcripts.{transcript}
+use Rattle.sb_outside.specs.declared.sink.SinkFault.{SinkFault}
+use Rattle.sb_outside.specs.declared.files.ReadCause.{ReadCause}
 use Rattle.sb_plain.specs.Audit.{answer_by, answer_in, answer_to, audit_end, audited_end, yes_line}
 use Rattle.sb_plain.specs.Contents.{Content, Refusal, policies_in, refused, script_in}
 use Rattle.sb_plain.specs.Effects.{Effect}
@@ -193,11 +195,11 @@ threaded_runs_are_audited law report printable order contents end text e ordered
 not_done : (files : ℕ) (s : Status) → NamesFile files s → s ≡ Done → ⊥
 not_done files s h e = none-some h.0 (sym (ap file_of e) ∙ h.1)
 
-done_read : (n : ℕ) → Done ≡ ReadFault n → ⊥
-done_read n e = cc
+done_read : (n : ℕ) (cause : ReadCause) → Done ≡ ReadFault n cause → ⊥
+done_read n cause e = cc
 
-done_written : Done ≡ WriteFault → ⊥
-done_written e = cc
+done_written : (fault : SinkFault) → Done ≡ WriteFault fault → ⊥
+done_written fault e = cc
 
 done_starved : Done ≡ NoMemory → ⊥
 done_starved e = cc
@@ -210,11 +212,11 @@ its_status : (thread : ℕ × ℕ) (s : Status) → ◌≡◌ {A = Result (List 
 its_status thread s e = cc
 
 module _ {G S : Type 0} (e : Effect G S) (o : Outcome) (done : o.status ≡ Done) where
-  not_read : (n : ℕ) → o.status ≡ ReadFault n → ⊥
-  not_read n is = done_read n (sym done ∙ is)
+  not_read : (n : ℕ) (cause : ReadCause) → o.status ≡ ReadFault n cause → ⊥
+  not_read n cause is = done_read n cause (sym done ∙ is)
 
-  not_written : o.status ≡ WriteFault → ⊥
-  not_written is = done_written (sym done ∙ is)
+  not_written : (fault : SinkFault) → o.status ≡ WriteFault fault → ⊥
+  not_written fault is = done_written fault (sym done ∙ is)
 
   not_starved : o.status ≡ NoMemory → ⊥
   not_starved is = done_starved (sym done ∙ is)
@@ -227,11 +229,11 @@ module _ {G S : Type 0} (e : Effect G S) (o : Outcome) (done : o.status ≡ Done
       by : (r : Result End Refusal) → RefusesFor files r → IsMeant r e o → (end : End) × (r ≡ Ok end) × IsDone end e o
       by (Ok end) f m = (end, refl, m)
       by (Err refusal) f m = absurd (not_done files refusal.status f (sym m.status ∙ done))
-  came meaning contents files refuses (inr (inl u)) = absurd (not_read u.file u.is.status)
+  came meaning contents files refuses (inr (inl u)) = absurd (not_read u.file u.cause u.is.status)
   came meaning contents files refuses (inr (inr (inl u))) = by (meaning contents) u
     where
       by : (r : Result End Refusal) → IsOkAnd r (λ x. IsUnwritten x e o) → (end : End) × (r ≡ Ok end) × IsDone end e o
-      by (Ok end) u = absurd (not_written u.status)
+      by (Ok end) u = absurd (not_written u.fault u.status)
       by (Err refusal) u = absurd u
   came meaning contents files refuses (inr (inr (inr s))) = absurd (not_starved s.status)
 

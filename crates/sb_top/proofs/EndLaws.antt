@@ -3,6 +3,7 @@ use Rattle.std.proofs.Common.{◌≡◌, ◌≢◌, ◌∙◌, refl, sym, ap, su
 use Rattle.std.specs.Prelude.{IfOk, IfSome, IsOkAnd, IsSome, Result, Ok, Err, ◌∷◌, [], option_map}
 use Rattle.std.proofs.lemmas.Option.{none-some}
 use Rattle.sb_outside.specs.Outside.{Held, Rose}
+use Rattle.sb_outside.specs.declared.files.ReadCause.{ReadCause}
 use Rattle.sb_plain.specs.Contents.{Refusal, refused}
 use Rattle.sb_plain.specs.Effects.{Effect}
 use Rattle.sb_plain.specs.Endings.{IsCaused, IsEndFor, IsMeant, IsRefused, IsUnwritten}
@@ -46,7 +47,7 @@ module _ (G S : Type 0) where
     comes caused quiet calm (inr (inr (inr s))) = inr s
 
     -- if its status names a file that was read it is as it is meant
-    refuses : (n : ℕ) → file_of o.status ≡ Some n → ((m : ℕ) → o.status ≢ ReadFault m) → IsEndFor meaning contents e o → IsMeant (meaning contents) e o
+    refuses : (n : ℕ) → file_of o.status ≡ Some n → ((m : ℕ) (cause : ReadCause) → o.status ≢ ReadFault m cause) → IsEndFor meaning contents e o → IsMeant (meaning contents) e o
     refuses n at other = by
       where
         no_file : {P : Type 0} (s : Status) → o.status ≡ s → file_of s ≡ None → P
@@ -54,8 +55,8 @@ module _ (G S : Type 0) where
 
         by : IsEndFor meaning contents e o → IsMeant (meaning contents) e o
         by (inl m) = m
-        by (inr (inl u)) = absurd (other u.file u.is.status)
-        by (inr (inr (inl u))) = unwritten (meaning contents) (λ x k. no_file WriteFault k.status refl) u
+        by (inr (inl u)) = absurd (other u.file u.cause u.is.status)
+        by (inr (inr (inl u))) = unwritten (meaning contents) (λ x k. no_file (WriteFault k.fault) k.status refl) u
         by (inr (inr (inr s))) = no_file NoMemory s.status refl
 
   -- the order of an end that is as it is meant is one of its run

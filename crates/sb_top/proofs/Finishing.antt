@@ -1,5 +1,5 @@
 -- How a command ends, by what it comes to and how that is put.
-use Rattle.std.proofs.Common.{◌≡◌, ◌∙◌, ◌≤◌, refl, sym, ap, subst, ℕ, ◌⊎◌, inl, inr, List, [], Option, None, Some, true, true≢false}
+use Rattle.std.proofs.Common.{◌≡◌, ◌∙◌, ◌≤◌, refl, sym, ap, subst, ℕ, ◌⊎◌, inl, inr, List, [], Option, None, Some, true≢false}
 use Rattle.std.proofs.lemmas.Bool.{false≢true}
 use Rattle.std.specs.Prelude.{IsOk, IsOkAnd, IsSome, OnOk, Result, Ok, Err}
 use Rattle.sb_book.specs.declared.reports.Report.{Report}
@@ -27,7 +27,7 @@ module _ {G S : Type 0} (e : Effect G S) (o : Outcome) where
   put_end end (Ok text) is (inl p) report shown =
       inl (record { written = subst (λ t. IsWritten t e o) (sym is) p; report = report; shown = shown })
   put_end end (Ok text) is (inr p) report shown =
-      inr (record { text = text; due = is; status = p.0; report = report; shown = shown; written = p.1; rose = p.2 })
+      inr (record { text = text; due = is; fault = p.0; status = p.1; report = report; shown = shown; written = p.2; rose = p.3 })
   put_end end (Err status) is p report shown =
       inl (record { written = subst (λ t. IsWritten t e o) (sym is) p; report = report; shown = shown })
 
@@ -56,7 +56,7 @@ module _ {G S : Type 0} (e : Effect G S) (o : Outcome) where
     refused_for : (refusal : Refusal) → IsFoundFor meaning contents (Err refusal) → Finished (Err refusal) → IsEndFor meaning contents e o
     refused_for refusal (inl h) f = inl (subst (λ r. IsMeant r e o) (sym h) (told refusal f))
     refused_for refusal (inr (inl h)) f =
-        inr (inl (record { file = h.0; reached = h.2; is = subst (λ r. IsRefused r e o) h.1 (told refusal f) }))
+        inr (inl (record { file = h.0; reached = h.2; cause = h.1.0; is = subst (λ r. IsRefused r e o) h.1.1 (told refusal f) }))
     refused_for refusal (inr (inr h)) f = inr (inr (inr (subst (λ r. IsRefused r e o) h (told refusal f))))
 
     ends_for : (found : Result ReportedEnd Refusal) → IsFoundFor meaning contents found → Finished found → IsEndFor meaning contents e o
@@ -67,7 +67,7 @@ module _ {G S : Type 0} (e : Effect G S) (o : Outcome) where
   text_caused : (rose : Type 0) (text : Result (List ℕ) Status) → IsTextCaused e.held rose text → IsPut text e.written e.pending e.written' (Rose e.puts e.puts') o.status
       → IsCaused e.held rose o.status
   text_caused rose (Ok text) c (inl p) = subst (IsCaused e.held rose) (sym p.0) tt
-  text_caused rose (Ok text) c (inr p) = subst (IsCaused e.held rose) (sym p.0) tt
+  text_caused rose (Ok text) c (inr p) = subst (IsCaused e.held rose) (sym p.1) tt
   text_caused rose (Err status) c p = subst (IsCaused e.held rose) (sym p.0) c
 
   caused : (rose : Type 0) (found : Result ReportedEnd Refusal) → IsEndCaused e.held rose found → Finished found → IsCaused e.held rose o.status

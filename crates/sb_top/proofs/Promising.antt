@@ -47,6 +47,8 @@ use Rattle.sb_transcript.specs.Laws.{EntriesComeFirst, ResultsFollow, TotalsEnd,
 use Rattle.sb_transcript.specs.Places.{results_before}
 use Rattle.sb_transcript.specs.Totals.{totals_line}
 use Rattle.sb_transcript.specs.Transcripts.{transcript}
+use Rattle.sb_outside.specs.declared.sink.SinkFault.{SinkFault}
+use Rattle.sb_outside.specs.declared.files.ReadCause.{ReadCause}
 use Rattle.sb_plain.specs.Contents.{Content, Refusal, no_schedule, policies_in, script_in, text_in}
 use Rattle.sb_plain.specs.Dup as dup
 use Rattle.sb_plain.specs.Dup.{answers_after, dup_end, moved_by, moved_text, moves_after, moves_end, moves_in}
@@ -159,11 +161,11 @@ counted held (name ∷ names) (c ∷ contents) h = ap suc (counted held names co
 not_done : (files : ℕ) (refusal : Refusal) → RefusesFor {A = End} files (Err refusal) → refusal.status ≡ Done → ⊥
 not_done files refusal h e = none-some h.0 (sym (ap file_of e) ∙ h.1)
 
-read_fault : (n : ℕ) → ReadFault n ≡ Done → ⊥
-read_fault n e = cc
+read_fault : (n : ℕ) (cause : ReadCause) → ReadFault n cause ≡ Done → ⊥
+read_fault n cause e = cc
 
-write_fault : WriteFault ≡ Done → ⊥
-write_fault e = cc
+write_fault : (fault : SinkFault) → WriteFault fault ≡ Done → ⊥
+write_fault fault e = cc
 
 no_memory : NoMemory ≡ Done → ⊥
 no_memory e = cc
@@ -181,12 +183,12 @@ done_end e o files meaning contents refuses h done = by h
     meant (Err refusal) is k m = absurd (not_done files refusal k (sym m.status ∙ done))
 
     unwritten : (r : Result End Refusal) → IsOkAnd r (λ x. IsUnwritten x e o) → ⊥
-    unwritten (Ok x) u = write_fault (sym u.status ∙ done)
+    unwritten (Ok x) u = write_fault u.fault (sym u.status ∙ done)
     unwritten (Err refusal) u = u
 
     by : IsEndFor meaning contents e o → (end : End) × (meaning contents ≡ Ok end) × IsDone end e o
     by (inl m) = meant (meaning contents) refl refuses m
-    by (inr (inl u)) = absurd (read_fault u.file (sym u.is.status ∙ done))
+    by (inr (inl u)) = absurd (read_fault u.file u.cause (sym u.is.status ∙ done))
     by (inr (inr (inl u))) = absurd (unwritten (meaning contents) u)
     by (inr (inr (inr s))) = absurd (no_memory (sym s.status ∙ done))
 

@@ -1,5 +1,5 @@
 -- The totals of a report that fits a script of calls with clean channels are those of the verdicts, and it has one result for each statement.
-use Rattle.std.proofs.Common.{◌≡◌, ◌∙◌, refl, ap, sym, subst, ℕ, zero, suc, ◌+◌, ◌/◌, ◌<◌, ◌≤◌, Bool, true, false, cond, ◌&&◌, ◌==◌, true≢false, List, [], ◌∷◌, ◌++◌, length, map, get_or, Option, Some, None, slice_get, codes, arith}
+use Rattle.std.proofs.Common.{◌≡◌, ◌∙◌, refl, ap, sym, subst, ℕ, zero, suc, ◌+◌, ◌/◌, ◌<◌, ◌≤◌, Bool, true, false, cond, ◌&&◌, ◌==◌, true≢false, List, [], ◌∷◌, length, map, get_or, Option, Some, None, slice_get, arith}
 use Rattle.std.specs.Prelude.{slice_index, nat_le, is_ok}
 use Rattle.std.specs.List.{count_by, filter, list_all, sum_by}
 use Rattle.std.proofs.lemmas.Bool.{and_parts}
@@ -41,7 +41,9 @@ use Rattle.sb_statements.specs.declared.scripts.Script.{Script}
 use Rattle.sb_statements.specs.declared.scripts.TargetScript.{TargetScript}
 use Rattle.sb_statements.specs.declared.statements.Statement.{Statement}
 use Rattle.sb_statements.specs.declared.statements.Statement.TheVariants.{Call, Store, Exchange, Load, Wait}
-use Rattle.sb_transcript.specs.Totals.{count_of, counted, is_denied, is_faked, is_performed, is_refused}
+use Rattle.sb_transcript.specs.Fields.{ended}
+use Rattle.sb_transcript.specs.Totals.{count_of, is_denied, is_faked, is_performed, is_refused}
+use Rattle.sb_transcript.specs.declared.read_lines.Line.TheVariants as Line
 use Rattle.sb_top.specs.Totals.{AllClean, TotalsAreOfVerdicts, are_calls, decided, decided_in, is_decided, statement_count, statements_in}
 use Rattle.sb_core.proofs.EntryCounts.{statements_are_few}
 use Rattle.sb_top.proofs.Sums.{Placed, count_first, counted_once, same_both, same_upto, sum_list, tally, upto, within_length}
@@ -357,7 +359,4 @@ totals_are_of_verdicts come targets_law statements_law policies script report kn
     let denied = by is_denied in
     let refused : count_of is_refused report.entries ≡ 0 = by is_refused ∙ none_refused policies script in
     let results = results_are_statements script report.results fits.whole_results in
-    (λ i. counted (codes "total entries ") (entries i)
-    ++ (counted (codes " performed ") (performed i) ++ counted (codes " faked ") (faked i) ++ counted (codes " denied ") (denied i) ++ counted (codes " refused ") (refused i))
-    ++ counted (codes " results ") (results i)
-    ++ codes "\n")
+    (λ i. ended (Line.Totals (record { entries = entries i; performed = performed i; faked = faked i; denied = denied i; refused = refused i; results = results i })))

@@ -1,5 +1,5 @@
 -- How the program ends.
-use Rattle.std.specs.Prelude.{ℕ, List, [], ◌++◌, Option, None, Some, codes, decimal}
+use Rattle.std.specs.Prelude.{◌≡◌, ℕ, List, [], ◌++◌, Option, None, Some, codes, decimal}
 use Rattle.sb_commands.specs.Commands.{command_of, name_at}
 use Rattle.sb_commands.specs.Forms.{forms}
 use Rattle.sb_commands.specs.Usage.{fault_of}
@@ -8,13 +8,15 @@ use Rattle.sb_dup.specs.Kinds as moves
 use Rattle.sb_link.specs.Kinds as links
 use Rattle.sb_message.specs.AuditMessages.{audit_message}
 use Rattle.sb_message.specs.EndMessages.{end_message}
-use Rattle.sb_message.specs.LinkMessages.{link_message}
-use Rattle.sb_message.specs.MoveMessages.{move_message}
-use Rattle.sb_message.specs.PolicyMessages.{policy_message}
-use Rattle.sb_message.specs.ScheduleMessages.{schedule_message}
-use Rattle.sb_message.specs.ScriptMessages.{script_message}
+use Rattle.sb_message.specs.LinkMessages.{IsLinkMessage}
+use Rattle.sb_message.specs.MoveMessages.{IsMoveMessage}
+use Rattle.sb_message.specs.PolicyMessages.{IsPolicyMessage}
+use Rattle.sb_message.specs.ScheduleMessages.{IsScheduleMessage}
+use Rattle.sb_message.specs.ScriptMessages.{IsScriptMessage}
 use Rattle.sb_message.specs.declared.end_messages.EndFault.TheVariants as end
 use Rattle.sb_message.specs.NoteMessages.{notes_message}
+use Rattle.sb_outside.specs.declared.sink.SinkFault.{SinkFault}
+use Rattle.sb_outside.specs.declared.sink.SinkFault.TheVariants.{Closed, Full, Failed}
 use Rattle.sb_text.specs.MissingTexts.{or_empty}
 use Rattle.sb_ruletext.specs.Kinds.{kind_number}
 use Rattle.sb_scripttext.specs.Kinds as script
@@ -32,8 +34,8 @@ code_of (ScriptRefused fault) = 4
 code_of (ScheduleRefused fault) = 5
 code_of (Missing which) = 6
 code_of (TooLong which) = 7
-code_of (ReadFault which) = 8
-code_of WriteFault = 9
+code_of (ReadFault which cause) = 8
+code_of (WriteFault fault) = 9
 code_of (Unfinished target thread) = 10
 code_of NoMemory = 11
 code_of (LinksRefused fault) = 12
@@ -49,8 +51,8 @@ text_of (ScriptRefused fault) = codes "script line " ++ (decimal fault.line ++ (
 text_of (ScheduleRefused fault) = codes "schedule line " ++ (decimal fault.line ++ (codes " fault " ++ decimal (schedule.kind_number fault.kind)))
 text_of (Missing which) = codes "missing file " ++ decimal which
 text_of (TooLong which) = codes "file " ++ (decimal which ++ codes " too long")
-text_of (ReadFault which) = codes "read fault in file " ++ decimal which
-text_of WriteFault = codes "write fault"
+text_of (ReadFault which cause) = codes "read fault in file " ++ decimal which
+text_of (WriteFault fault) = codes "write fault"
 text_of (Unfinished target thread) = codes "unfinished: target " ++ (decimal target ++ (codes " thread " ++ decimal thread))
 text_of NoMemory = codes "no memory"
 text_of (LinksRefused fault) = codes "links line " ++ (decimal fault.line ++ (codes " fault " ++ decimal (links.kind_number fault.kind)))
@@ -68,24 +70,30 @@ abbrev pub notes_by : List ℕ → Option (List ℕ) → List ℕ
 notes_by name None = []
 notes_by name (Some text) = notes_message name text
 
--- what is written on standard error for a status of a command with files of these names, where this line of a text is shown: what was wrong, and if it is the
--- fault of a text, the place and the line. For a fault of the arguments these are told too
-abbrev pub message_by : List (List ℕ) → List (List ℕ) → Status → Option (List ℕ) → List ℕ
-message_by words names Done shown = notes_by (name_at 1 names) shown
-message_by words names (Usage fault) shown = usage_message (fault_of fault) words
-message_by words names (PolicyRefused fault) shown = policy_message (name_at 1 names) fault (or_empty shown)
-message_by words names (ScriptRefused fault) shown = script_message (name_at 2 names) fault (or_empty shown)
-message_by words names (ScheduleRefused fault) shown = schedule_message (name_at 3 names) fault (or_empty shown)
-message_by words names (LinksRefused fault) shown = link_message (name_at 3 names) fault (or_empty shown)
-message_by words names (MovesRefused fault) shown = move_message (name_at 3 names) fault (or_empty shown)
-message_by words names (AuditNo refuted) shown = audit_message (name_at 3 names) refuted shown
-message_by words names (Missing n) shown = end_message (end.Missing n) (name_at n names)
-message_by words names (TooLong n) shown = end_message (end.TooLong n) (name_at n names)
-message_by words names (ReadFault n) shown = end_message (end.ReadFault n) (name_at n names)
-message_by words names WriteFault shown = end_message end.WriteFault []
-message_by words names (Unfinished target thread) shown = end_message (end.Unfinished target thread) []
-message_by words names NoMemory shown = end_message end.NoMemory []
+-- why an output was not written; nothing if its reader has closed it
+abbrev pub write_message : SinkFault → List ℕ
+write_message Closed = []
+write_message Full = end_message end.OutputFull []
+write_message Failed = end_message end.WriteFault []
 
--- what is written for a status with which these arguments ended
-abbrev pub message_of : List (List ℕ) → Status → Option (List ℕ) → List ℕ
-message_of words status shown = message_by words (files_for (command_of words)) status shown
+-- A text is one that is written on standard error for a status of a command with files of these names, where this line of a text is shown: what was wrong, and
+-- if it is the fault of a text, the place and the line. For a fault of the arguments these are told too
+abbrev pub IsMessageBy : List (List ℕ) → List (List ℕ) → Status → Option (List ℕ) → List ℕ → Type 0
+IsMessageBy words names Done shown text = text ≡ notes_by (name_at 1 names) shown
+IsMessageBy words names (Usage fault) shown text = text ≡ usage_message (fault_of fault) words
+IsMessageBy words names (PolicyRefused fault) shown text = IsPolicyMessage (name_at 1 names) fault (or_empty shown) text
+IsMessageBy words names (ScriptRefused fault) shown text = IsScriptMessage (name_at 2 names) fault (or_empty shown) text
+IsMessageBy words names (ScheduleRefused fault) shown text = IsScheduleMessage (name_at 3 names) fault (or_empty shown) text
+IsMessageBy words names (LinksRefused fault) shown text = IsLinkMessage (name_at 3 names) fault (or_empty shown) text
+IsMessageBy words names (MovesRefused fault) shown text = IsMoveMessage (name_at 3 names) fault (or_empty shown) text
+IsMessageBy words names (AuditNo refuted) shown text = text ≡ audit_message (name_at 3 names) refuted shown
+IsMessageBy words names (Missing n) shown text = text ≡ end_message (end.Missing n) (name_at n names)
+IsMessageBy words names (TooLong n) shown text = text ≡ end_message (end.TooLong n) (name_at n names)
+IsMessageBy words names (ReadFault n cause) shown text = text ≡ end_message (end.ReadFault n cause) (name_at n names)
+IsMessageBy words names (WriteFault fault) shown text = text ≡ write_message fault
+IsMessageBy words names (Unfinished target thread) shown text = text ≡ end_message (end.Unfinished target thread) []
+IsMessageBy words names NoMemory shown text = text ≡ end_message end.NoMemory []
+
+-- a text is one that is written for a status with which these arguments ended
+abbrev pub IsMessageOf : List (List ℕ) → Status → Option (List ℕ) → List ℕ → Type 0
+IsMessageOf words status shown text = IsMessageBy words (files_for (command_of words)) status shown text

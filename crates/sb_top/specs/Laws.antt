@@ -4,6 +4,7 @@ use Rattle.sb_commands.specs.Commands.{Command}
 use Rattle.sb_commands.specs.Usage.{Fault, fault_of}
 use Rattle.sb_commands.specs.declared.usage_faults.UsageFault.{UsageFault}
 use Rattle.sb_outside.specs.Outside.{Held, Rose}
+use Rattle.sb_outside.specs.declared.files.ReadCause.{ReadCause}
 use Rattle.sb_plain.specs.Contents.{refused}
 use Rattle.sb_plain.specs.Effects.{Effect}
 use Rattle.sb_plain.specs.Endings.{IsEnding, IsMeant, IsRefused}
@@ -35,7 +36,7 @@ module _ (G S : Type 0) where
   -- a status that names a file, except that it was not read, is that of the refusal, or the end, which the command means over what is held
   abbrev pub RefusalsAreMeant : Type 0
   RefusalsAreMeant = (meaning : Meaning) (names : List (List ℕ)) (held : Held) (e : Effect G S) (o : Outcome) (n : ℕ)
-      → IsEnding meaning names e o → e.held ≡ Some held → file_of o.status ≡ Some n → ((m : ℕ) → o.status ≢ ReadFault m)
+      → IsEnding meaning names e o → e.held ≡ Some held → file_of o.status ≡ Some n → ((m : ℕ) (cause : ReadCause) → o.status ≢ ReadFault m cause)
       → IsMeantBy meaning (contents_of held names) e o
 
 -- arguments that end with Usage are no command, and this is their fault; and a status that names a file names one of the command

@@ -1,5 +1,5 @@
 -- The totals that verdicts over all statements give, if each statement is a call and every channel is clean.
-use Rattle.std.specs.Prelude.{◌≡◌, ℕ, Bool, true, false, List, ◌++◌, count_by, sum_by, codes}
+use Rattle.std.specs.Prelude.{◌≡◌, ℕ, Bool, true, false, List, count_by, sum_by}
 use Rattle.std.specs.List.{list_all}
 use Rattle.sb_book.specs.Decisions.{by_verdict}
 use Rattle.sb_book.specs.Readiness.{IsReady}
@@ -15,7 +15,9 @@ use Rattle.sb_statements.specs.declared.scripts.Script.{Script}
 use Rattle.sb_statements.specs.declared.scripts.TargetScript.{TargetScript}
 use Rattle.sb_statements.specs.declared.statements.Statement.{Statement}
 use Rattle.sb_statements.specs.declared.statements.Statement.TheVariants.{Call, Store, Exchange, Load, Wait}
-use Rattle.sb_transcript.specs.Totals.{counted, is_denied, is_faked, is_performed, totals_line}
+use Rattle.sb_transcript.specs.Fields.{ended}
+use Rattle.sb_transcript.specs.Totals.{is_denied, is_faked, is_performed, totals_line}
+use Rattle.sb_transcript.specs.declared.read_lines.Line.TheVariants.{Totals}
 
 -- a statement is a call on which the verdict of the policy leads to such a decision
 abbrev pub is_decided : (Decision → Bool) → Policy → Statement → Bool
@@ -36,11 +38,14 @@ decided is_such policies script = sum_by (decided_in is_such policies) script.ta
 -- as many entries and results as statements; how many calls are performed, faked and denied by their verdicts; and no block is refused
 abbrev pub totals_by : List Policy → Script → List ℕ
 totals_by policies script =
-    counted (codes "total entries ") (statement_count script)
-    ++ (counted (codes " performed ") (decided is_performed policies script) ++ counted (codes " faked ") (decided is_faked policies script)
-    ++ counted (codes " denied ") (decided is_denied policies script) ++ counted (codes " refused ") 0)
-    ++ counted (codes " results ") (statement_count script)
-    ++ codes "\n"
+    ended (Totals (record {
+      entries = statement_count script;
+      performed = decided is_performed policies script;
+      faked = decided is_faked policies script;
+      denied = decided is_denied policies script;
+      refused = 0;
+      results = statement_count script;
+    }))
 
 -- each statement is a call
 abbrev pub are_calls : Script → Bool

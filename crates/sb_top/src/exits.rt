@@ -19,7 +19,7 @@ pub fn exit_code(status: Status) -> u8
         Status::Missing { .. } => 6,
         Status::TooLong { .. } => 7,
         Status::ReadFault { .. } => 8,
-        Status::WriteFault => 9,
+        Status::WriteFault(_) => 9,
         Status::Unfinished { .. } => 10,
         Status::NoMemory => 11,
         Status::LinksRefused(_) => 12,
@@ -77,8 +77,8 @@ impl fmt::Display for Complaint {
             }
             Status::Missing { which } => write!(f, "sandbox: missing file {which}"),
             Status::TooLong { which } => write!(f, "sandbox: file {which} too long"),
-            Status::ReadFault { which } => write!(f, "sandbox: read fault in file {which}"),
-            Status::WriteFault => f.write_str("sandbox: write fault"),
+            Status::ReadFault { which, .. } => write!(f, "sandbox: read fault in file {which}"),
+            Status::WriteFault(_) => f.write_str("sandbox: write fault"),
             Status::Unfinished { target, thread } => {
                 write!(f, "sandbox: unfinished: target {target} thread {thread}")
             }

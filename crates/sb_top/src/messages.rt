@@ -4,7 +4,7 @@ ghost use Rattle.sb_commands.specs.Commands.{command_of, name_at};
 ghost use Rattle.sb_commands.specs.Usage.{texts};
 ghost use Rattle.sb_message.specs.NoteMessages.{notes_message};
 ghost use Rattle.sb_text.specs.MissingTexts.{or_empty};
-ghost use Rattle.sb_top.specs.Exits.{message_of, notes_by};
+ghost use Rattle.sb_top.specs.Exits.{IsMessageOf, notes_by, write_message};
 ghost use Rattle.sb_top.specs.Top.{files_for};
 
 use sb_base::NoMemory;
@@ -13,6 +13,7 @@ use sb_message::{
     EndFault, audit_message, end_message, link_message, move_message, notes_text, policy_message,
     schedule_message, script_message,
 };
+use sb_outside::SinkFault;
 use sb_plain::{Outcome, Shown, Status};
 use std::alloc::Global;
 
@@ -67,13 +68,25 @@ fn notes_told(alloc: Global, words: &[String], outcome: &Outcome) -> Result<Stri
     }
 }
 
+// Why the output was not written; nothing if its reader has closed it, since that is how a reader says that it has enough.
+fn write_message(alloc: Global, fault: SinkFault) -> Result<String, NoMemory>
+    ensures { IfOk result (λ text. string_bytes text ≡ write_message fault) }
+{
+    match fault {
+        SinkFault::Closed => Ok(String::new(alloc)),
+        SinkFault::Full => end_message(alloc, EndFault::OutputFull, b""),
+        SinkFault::Failed => end_message(alloc, EndFault::WriteFault, b""),
+    }
+}
+
 /// What is written on standard error for an outcome of these arguments: the file and what was wrong in words, and for the fault of a text its place and
-/// the line with a caret; for a usage fault what was wrong with the arguments, and the usage line. Done has no message, but the notes of the policy text of `check`.
+/// the line with a caret; for a usage fault what was wrong with the arguments, and the usage line. Done has no message, but the notes of the policy text of `check`, and neither has WriteFault if the
+/// reader of the output has closed it.
 ///
 /// # Errors
 /// `NoMemory` if there was none for the message.
 pub fn message(alloc: Global, words: &[String], outcome: &Outcome) -> Result<String, NoMemory>
-    ensures { IfOk result (λ text. string_bytes text ≡ message_of (texts words.now) outcome.now.status outcome.now.shown) }
+    ensures { IfOk result (λ text. IsMessageOf (texts words.now) outcome.now.status outcome.now.shown (string_bytes text)) }
 {
     let line = shown_line(outcome);
     match outcome.status {
@@ -111,11 +124,11 @@ pub fn message(alloc: Global, words: &[String], outcome: &Outcome) -> Result<Str
             let name = name_in(alloc, words, which)?;
             end_message(alloc, EndFault::TooLong { which }, name.as_bytes())
         }
-        Status::ReadFault { which } => {
+        Status::ReadFault { which, cause } => {
             let name = name_in(alloc, words, which)?;
-            end_message(alloc, EndFault::ReadFault { which }, name.as_bytes())
+            end_message(alloc, EndFault::ReadFault { which, cause }, name.as_bytes())
         }
-        Status::WriteFault => end_message(alloc, EndFault::WriteFault, b""),
+        Status::WriteFault(fault) => write_message(alloc, fault),
         Status::Unfinished { target, thread } => end_message(
             alloc,
             EndFault::Unfinished { target, thread },

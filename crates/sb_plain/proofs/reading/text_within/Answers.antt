@@ -20,7 +20,7 @@ pub returns-in-Err-clause-read : goal.returns-in-Err-clause-read
 returns-in-Err-clause-read g c =
     let held = g.F.Files.held c.args.files.now in
     let rose = Rose (g.F.Files.faults c.args.files.now) (g.F.Files.faults c.read.new.self) in
-    let found = text_unread (λ (text : List ℕ). text) c.args.most c.args.which held c.args.name.now rose c.in-Err.fault (λ e. c.in-Err.ensures.failed (ap Err e)) (λ e. c.in-Err.ensures.missing (ap Err e)) (λ e. c.in-Err.ensures.too_long (ap Err e)) in
+    let found = text_unread (λ (text : List ℕ). text) c.args.most c.args.which held c.args.name.now rose c.in-Err.fault (λ cause e. c.in-Err.ensures.failed cause (ap Err e)) (λ e. c.in-Err.ensures.missing (ap Err e)) (λ e. c.in-Err.ensures.too_long (ap Err e)) in
     let P : Refusal → Type 0 = λ r. IsRead (λ (text : List ℕ). text) c.args.which (text_within c.args.most c.args.which) held c.args.name.now (Err r) in
     subst P (sym c.refused_by.ensures) found.0
 
@@ -28,6 +28,6 @@ pub returns-in-Err-clause-files : goal.returns-in-Err-clause-files
 returns-in-Err-clause-files g c =
     let held = g.F.Files.held c.args.files.now in
     let rose = Rose (g.F.Files.faults c.args.files.now) (g.F.Files.faults c.read.new.self) in
-    let found = text_unread (λ (text : List ℕ). text) c.args.most c.args.which held c.args.name.now rose c.in-Err.fault (λ e. c.in-Err.ensures.failed (ap Err e)) (λ e. c.in-Err.ensures.missing (ap Err e)) (λ e. c.in-Err.ensures.too_long (ap Err e)) in
+    let found = text_unread (λ (text : List ℕ). text) c.args.most c.args.which held c.args.name.now rose c.in-Err.fault (λ cause e. c.in-Err.ensures.failed cause (ap Err e)) (λ e. c.in-Err.ensures.missing (ap Err e)) (λ e. c.in-Err.ensures.too_long (ap Err e)) in
     let P : Refusal → Type 0 = λ r. IsCaused held rose r.status in
     record { kept = c.in-Err.ensures.kept; counted = c.in-Err.ensures.counted; ok_count = tt; caused = subst P (sym c.refused_by.ensures) found.1 }
