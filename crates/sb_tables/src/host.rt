@@ -1,7 +1,7 @@
 // Table tests of files and outputs of the system.
 
 use crate::bytes::put_shown;
-use sb_outside::{FileFault, Files, HostFiles, HostSink, Sink, SinkFault};
+use sb_outside::{FileFault, Files, HostDisk, HostFiles, HostOutput, HostSink, Sink, SinkFault};
 use sb_rows::{RowFault, bytes, number, put_between};
 use std::alloc::Global;
 use std::io::Cursor;
@@ -13,7 +13,7 @@ pub fn reads_of<R: rt::Files>(rt: &R, alloc: Global, parts: &[&str]) -> Result<S
         return Err(RowFault::BadWords);
     };
     let most = number(most)?;
-    let mut files = HostFiles::new(rt);
+    let mut files = HostFiles::new(HostDisk::new(rt));
     let mut out = String::new(alloc);
     for name in names {
         put_read(alloc, &mut files, most, name, &mut out)?;
@@ -24,7 +24,7 @@ pub fn reads_of<R: rt::Files>(rt: &R, alloc: Global, parts: &[&str]) -> Result<S
 // Appends what the read of a file returns, and the count of faults.
 fn put_read<R: rt::Files>(
     alloc: Global,
-    files: &mut HostFiles<&R>,
+    files: &mut HostFiles<HostDisk<&R>>,
     most: u64,
     name: &str,
     out: &mut String,
@@ -54,7 +54,8 @@ fn put_all(
     room: &mut [u8],
     out: &mut String,
 ) -> Result<(), RowFault> {
-    let mut sink = HostSink::new(alloc, Cursor::new(room), piece)?;
+    let writer = Cursor::new(room);
+    let mut sink = HostSink::new(alloc, HostOutput { writer }, piece)?;
     for text in texts {
         put_one(alloc, text, &mut sink, out)?;
     }
@@ -66,7 +67,7 @@ fn put_all(
 fn put_one(
     alloc: Global,
     text: &str,
-    sink: &mut HostSink<Cursor<&mut [u8]>>,
+    sink: &mut HostSink<HostOutput<Cursor<&mut [u8]>>>,
     out: &mut String,
 ) -> Result<(), RowFault> {
     let put = bytes(alloc, text)?;
@@ -75,8 +76,8 @@ fn put_one(
     Ok(out.push_str("; ")?)
 }
 
-// Appends what a read returns.
-fn put_content(out: &mut String, content: Result<Vec<u8>, FileFault>) -> Result<(), RowFault> {
+/// Appends what a read returns.
+pub fn put_content(out: &mut String, content: Result<Vec<u8>, FileFault>) -> Result<(), RowFault> {
     match content {
         Ok(content) => put_shown(out, &content)?,
         Err(fault) => write!(out, "{fault:?}")?,

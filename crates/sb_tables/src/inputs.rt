@@ -41,8 +41,18 @@ fn lines(alloc: Global, first: &str, word: &str, text: &str) -> Result<String, R
 
 /// The script of a row, without its first line, ready for the policies of all rows. Its lines are separated by semicolons.
 pub fn inputs_of(alloc: Global, text: &str) -> Result<ReadyScript, RowFault> {
-    let text = lines(alloc, "sandbox-script 1\n", "", text)?;
-    ready_by(alloc, POLICY.as_bytes(), text.as_str().as_bytes())
+    let text = text_of_script(alloc, text)?;
+    ready_script(alloc, text.as_str())
+}
+
+/// The text of the script of a row, of which each semicolon ends a line. Its first line is the version.
+pub fn text_of_script(alloc: Global, text: &str) -> Result<String, RowFault> {
+    lines(alloc, "sandbox-script 1\n", "", text)
+}
+
+/// The script of a text, ready for the policies of all rows.
+pub fn ready_script(alloc: Global, text: &str) -> Result<ReadyScript, RowFault> {
+    ready_by(alloc, POLICY.as_bytes(), text.as_bytes())
 }
 
 /// The script in the file of one name, ready for the policies in the file of another.
@@ -82,6 +92,15 @@ pub fn text_of_rules(alloc: Global, rules: &str) -> Result<String, RowFault> {
 /// The policies of the text of rules.
 pub fn policies_of_rules(alloc: Global, rules: &str) -> Result<WellMadePolicies, RowFault> {
     let text = text_of_rules(alloc, rules)?;
+    policies_of(alloc, text.as_str().as_bytes())
+}
+
+/// The policies of the text of rules of version 2, in which a rule may be `readonly`.
+pub fn policies_of_second_version(
+    alloc: Global,
+    rules: &str,
+) -> Result<WellMadePolicies, RowFault> {
+    let text = lines(alloc, "sandbox-policy 2\npolicy web\n", "", rules)?;
     policies_of(alloc, text.as_str().as_bytes())
 }
 

@@ -1,4 +1,4 @@
-// Prints table tests of functions: of files and outputs of the system, of an index, of rules, codes and scripts, of the nodes of an arena, of
+// Prints table tests of functions: of files and outputs of the system, of an index, of rules, codes and scripts, of explained decisions, of the nodes of an arena, of
 // single lines of a transcript, of messages, of the pool of works, and of the memory that the threads of a run share. It also does works
 // that no command does alone, in a given number of rounds, so that bench/run can take the time. A row is a function with its arguments,
 // which bars divide, and what it gives is printed after it. Some rows start threads; what they give is the same in whatever order the
@@ -14,6 +14,8 @@ mod codes;
 mod copies;
 mod crews;
 mod crowding;
+mod disks;
+mod explained;
 mod host;
 mod indexes;
 mod inputs;

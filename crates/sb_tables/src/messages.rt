@@ -2,7 +2,7 @@
 
 use sb_base::NoMemory;
 use sb_block::{BlockFault, TooBig};
-use sb_outside::{FileFault, SinkFault};
+use sb_outside::{FileFault, ReadCause, SinkFault};
 use sb_rows::{RowFault, put_between};
 use sb_rule::PatternFault;
 use sb_text::NotUtf8;
@@ -36,12 +36,15 @@ fn put_outside(out: &mut String) -> Result<(), RowFault> {
     for fault in [
         FileFault::Missing,
         FileFault::TooLong,
-        FileFault::Failed,
+        FileFault::Failed(ReadCause::Other),
         FileFault::NoMemory,
     ] {
         put_message(out, &fault)?;
     }
-    put_message(out, &SinkFault::Failed)
+    for fault in [SinkFault::Closed, SinkFault::Full, SinkFault::Failed] {
+        put_message(out, &fault)?;
+    }
+    Ok(())
 }
 
 fn put_patterns(out: &mut String) -> Result<(), RowFault> {

@@ -2,8 +2,8 @@
 
 use crate::inputs::inputs_of;
 use crate::{
-    arenas, codes, crews, host, indexes, lines, messages, plays, policies, pools, scripts, stops,
-    works,
+    arenas, codes, crews, disks, explained, host, indexes, lines, messages, plays, policies, pools,
+    scripts, stops, works,
 };
 use sb_book::ReadyScript;
 use sb_rows::{RowFault, arguments, number};
@@ -33,12 +33,14 @@ fn value_by<R: Files + AllocGlobal + Threads + Wait + Sync>(
     match name {
         "HostFiles::read" => host::reads_of(rt, alloc, parts),
         "HostSink::put" => host::puts_of(alloc, parts),
+        "Disk::read" => disks::read_of(alloc, parts),
         "messages" | "candidates" => plain_value(alloc, name, parts),
         "all_well_made" | "matches_plain" | "read_notes" | "verdict_plain" | "well_made" => {
             policies::value_of(alloc, name, parts)
         }
         "verify" | "verify_words" | "eval" => codes::value_of(alloc, name, parts),
         "sound" | "SoundScript::new" | "clean" => scripts::value_of(alloc, name, parts),
+        "judge_text" | "why_text" => explained::value_of(alloc, name, parts),
         "arena" => arenas::told_steps(alloc, parts),
         "line" => lines::told_line(alloc, parts),
         "Pool::draw" | "Pool::close" => pools::value_of(rt, alloc, name, parts),

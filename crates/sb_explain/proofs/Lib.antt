@@ -1,0 +1,2 @@
+pub mod Capping
+pub mod Telling
