@@ -25,7 +25,7 @@ use Rattle.sb_rule.specs.declared.policies.Policy.{Policy}
 use Rattle.sb_rule.specs.declared.policies.Rule.{Rule}
 use Rattle.sb_rule.specs.declared.verdicts.Verdict.{Verdict}
 use Rattle.sb_rule.specs.declared.verdicts.Verdict.TheVariants as verdict
-use Rattle.sb_compare.specs.Changes.{Answer, Performed, Faked, Denied, Alarmed, answer_by, answer_to, action_of, are_alike, change_of, grants, ChangesDecideAnswers}
+use Rattle.sb_compare.specs.Changes.{Answer, Performed, Faked, Denied, Alarmed, answer_by, answer_to, action_of, are_alike, ChangesDecideAnswers}
 
 -- an access without bits that do more than read is not cut, and one that is not cut has none
 cut_nothing : (a : ℕ) → a < 2 ^ 32 → bit_and a writing_bits ≡ 0 → bit_and a read_only_bits ≡ a

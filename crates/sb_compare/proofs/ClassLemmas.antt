@@ -1,7 +1,5 @@
 -- The class of a call tells its change.
-use Rattle.std.specs.List.{flat_map}
 use Rattle.std.proofs.Common.{◌≡◌, ◌∙◌, ℕ, Bool, true, false, List, [], ◌∷◌, ◌++◌, eqb, cond, refl, ap, sym, append-nil}
-use Rattle.sb_rule.specs.declared.actions.Action.{Action}
 use Rattle.sb_rule.specs.declared.actions.Action.TheVariants.{Allow, Deny, Alarm, Fake, ReadOnly}
 use Rattle.sb_rule.specs.declared.verdicts.Verdict.{Verdict}
 use Rattle.sb_rule.specs.declared.verdicts.Verdict.TheVariants as verdict

@@ -1,12 +1,13 @@
 -- Policies compared one after another.
 use Rattle.std.specs.List.{list_all}
-use Rattle.std.proofs.Common.{◌≡◌, ◌∙◌, ◌<◌, ◌+◌, ℕ, zero, suc, Bool, true, false, cond, Option, None, Some, List, [], ◌∷◌, ◌++◌, ◌&&◌, leb, length, get_or, drop, refl, ap, sym, subst, arith, append-nil, append_assoc}
+use Rattle.std.proofs.Common.{◌≡◌, ◌∙◌, ◌<◌, ℕ, zero, suc, Bool, true, false, cond, Option, None, Some, List, [], ◌∷◌, ◌++◌, ◌&&◌, leb, length, get_or, refl, ap, sym, subst, arith, append-nil, append_assoc}
 use Rattle.std.proofs.lemmas.Bool.{and_parts, false≢true}
 use Rattle.sb_rule.specs.Limits.{most_policies}
 use Rattle.sb_rule.specs.WellMade.{are_named_apart, are_well_made, is_named, is_well_made}
 use Rattle.sb_rule.specs.declared.policies.Policy.{Policy}
-use Rattle.sb_compare.specs.Comparing.{policy_named, AreChangesFrom, AreCompared, AreComparedSoFar}
+use Rattle.sb_compare.specs.Comparing.{policy_named, AreChangesFrom, AreCompared}
 use Rattle.sb_compare.specs.declared.changes.ShownChange.{ShownChange}
+use Rattle.sb_compare.proofs.Walks.{AreComparedSoFar}
 
 abbrev has_policy : Option Policy → Bool
 has_policy None = false

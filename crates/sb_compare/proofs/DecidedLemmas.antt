@@ -1,7 +1,6 @@
 -- The shorter one of the calls that do more than read and of those that do not is the shortest of all.
 use Rattle.std.specs.List.{list_all}
-use Rattle.std.proofs.Common.{◌≡◌, ◌∙◌, ◌<◌, ◌+◌, ℕ, Bool, true, false, cond, Option, None, Some, List, [], ◌∷◌, ◌++◌, length, drop, refl, ap, sym, subst, arith, append-nil, append_assoc}
-use Rattle.std.proofs.lemmas.Bool.{and_parts, false≢true}
+use Rattle.std.proofs.Common.{◌≡◌, ◌∙◌, ◌<◌, ℕ, Bool, true, false, cond, Option, None, Some, List, [], ◌∷◌, ◌++◌, length, refl, ap, sym, subst, arith, append-nil, append_assoc}
 use Rattle.sb_call.specs.Arguments.{fits}
 use Rattle.sb_call.specs.declared.arguments.Arg.{Arg}
 use Rattle.sb_call.specs.declared.tags.CallTag.{CallTag}
@@ -9,15 +8,15 @@ use Rattle.sb_cover.specs.CallAccesses.{writes}
 use Rattle.sb_cover.specs.Choices.{is_shown_arg}
 use Rattle.sb_cover.specs.Lengths.{is_shorter}
 use Rattle.sb_cover.specs.PolicyCovers.{is_call}
-use Rattle.sb_explore.specs.Exploring.{list_at}
 use Rattle.sb_rule.specs.Verdicts.{verdict_of}
 use Rattle.sb_rule.specs.declared.policies.Policy.{Policy}
 use Rattle.sb_rule.specs.declared.verdicts.Verdict.{Verdict}
 use Rattle.sb_compare.specs.Candidates.{verdicts}
-use Rattle.sb_compare.specs.Classes.{bit_of, class_of, class_of_verdict, verdict_numbers}
-use Rattle.sb_compare.specs.Decided.{AreDecided, AreDecidedPut, AreDecidedSoFar, AreAllDecided, AreAllDecidedSoFar, IsDecidedPut, IsToldOf, shorter_of}
+use Rattle.sb_compare.specs.Classes.{bit_of, class_of_verdict, verdict_numbers}
+use Rattle.sb_compare.specs.Decided.{AreDecided, AreDecidedPut, AreAllDecided, IsDecidedPut, IsToldOf, shorter_of}
 use Rattle.sb_compare.specs.ShownCalls.{call_at, AreShortest, IsFoundIn}
 use Rattle.sb_compare.specs.declared.decided.Decided.{Decided}
+use Rattle.sb_compare.proofs.Walks.{AreAllDecidedSoFar, AreDecidedSoFar}
 use Rattle.sb_compare.proofs.ClassLemmas.{same_verdict}
 use Rattle.sb_compare.proofs.ShownCallLemmas.{not_shorter, not_shorter_either, test_at}
 

@@ -6,3 +6,4 @@ pub mod CoverTextLemmas
 pub mod DecidedLemmas
 pub mod ShownCallLemmas
 pub mod ShownChangeLemmas
+pub mod Walks

@@ -1,9 +1,9 @@
 -- The shortest call of each class.
-use Rattle.std.specs.List.{Contains, flat_map, list_all, list_any, position}
+use Rattle.std.specs.List.{flat_map, list_all, list_any, position}
 use Rattle.std.specs.Cmp.Lexicographic.{pointwise, bytes_decides}
 use Rattle.std.specs.Option.{is_some}
 use Rattle.std.specs.Prelude.{IfSome, IfNone}
-use Rattle.std.proofs.Common.{◌≡◌, ◌≢◌, ◌⊎◌, inl, inr, ◌∙◌, ◌<◌, ◌≤◌, ◌+◌, ℕ, zero, suc, Bool, true, false, cond, not, Option, None, Some, List, [], ◌∷◌, ◌++◌, ◌&&◌, ◌||◌, eqb, ltb, length, get_or, set, nat_eq, refl, ap, sym, subst, arith, append-nil, length-append}
+use Rattle.std.proofs.Common.{◌≡◌, inl, inr, ◌∙◌, ◌<◌, ◌≤◌, ◌+◌, ℕ, zero, suc, Bool, true, false, cond, Option, None, Some, List, [], ◌∷◌, ◌++◌, ◌&&◌, ◌||◌, eqb, ltb, length, get_or, set, nat_eq, refl, ap, sym, subst, arith, length-append}
 use Rattle.std.proofs.lemmas.Bool.{and_parts, eqb-true, false≢true}
 use Rattle.std.proofs.lemmas.Bool.Decides.{nat_tests}
 use Rattle.std.proofs.lemmas.List.Quantifiers.{position-Some}
@@ -13,7 +13,7 @@ use Rattle.sb_call.specs.declared.arguments.Arg.{Arg}
 use Rattle.sb_call.specs.declared.tags.CallTag.{CallTag}
 use Rattle.sb_cover.specs.Lengths.{is_shorter, units_of, words_of}
 use Rattle.sb_cover.specs.CallAccesses.{writes}
-use Rattle.sb_cover.specs.PolicyCovers.{is_call, verdicts_of, HasTwinUnder, IsCoverUnder}
+use Rattle.sb_cover.specs.PolicyCovers.{is_call, verdicts_of, IsCoverUnder}
 use Rattle.sb_explore.specs.Exploring.{list_at}
 use Rattle.sb_rule.specs.Verdicts.{verdict_of}
 use Rattle.sb_rule.specs.declared.policies.Policy.{Policy}

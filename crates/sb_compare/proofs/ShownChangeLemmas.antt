@@ -1,22 +1,22 @@
 -- Changes are shown by the shortest call of their class.
 use Rattle.std.specs.List.{list_all}
-use Rattle.std.proofs.Common.{◌≡◌, ◌⊎◌, inl, inr, ◌∙◌, ◌<◌, ◌≤◌, ◌+◌, ℕ, Bool, true, false, Option, None, Some, List, [], ◌∷◌, ◌++◌, length, get_or, drop, nat_eq, refl, ap, sym, subst, arith, append-nil, append_assoc}
+use Rattle.std.proofs.Common.{◌≡◌, inl, inr, ◌∙◌, ◌<◌, ℕ, true, false, None, Some, List, [], ◌∷◌, ◌++◌, length, refl, ap, sym, subst, arith, append-nil, append_assoc}
 use Rattle.std.proofs.lemmas.Bool.{and_parts, false≢true}
 use Rattle.sb_call.specs.Arguments.{fits}
 use Rattle.sb_call.specs.declared.arguments.Arg.{Arg}
 use Rattle.sb_call.specs.declared.tags.CallTag.{CallTag}
 use Rattle.sb_cover.specs.Choices.{is_passable, is_shown_arg}
-use Rattle.sb_cover.specs.PolicyCovers.{is_call}
 use Rattle.sb_explore.specs.Exploring.{list_at}
 use Rattle.sb_rule.specs.WellMade.{is_well_made}
 use Rattle.sb_rule.specs.declared.policies.Policy.{Policy}
 use Rattle.sb_compare.specs.Candidates.{candidates}
 use Rattle.sb_compare.specs.Changes.{change_of, is_answered_alike, AnswersAlike, ChangesDecideAnswers}
-use Rattle.sb_compare.specs.Classes.{class_of, class_of_change}
+use Rattle.sb_compare.specs.Classes.{class_of_change}
 use Rattle.sb_compare.specs.ShownCalls.{call_at, AreShortest, IsFoundIn}
-use Rattle.sb_compare.specs.ShownChanges.{AreAllChanges, AreAllSoFar, ArePut, ArePutSoFar, AreShown, IsChangePut, IsNoChange, IsShown}
+use Rattle.sb_compare.specs.ShownChanges.{AreAllChanges, ArePut, AreShown, IsChangePut, IsNoChange, IsShown}
 use Rattle.sb_compare.specs.declared.changes.Change.{Change}
 use Rattle.sb_compare.specs.declared.changes.ShownChange.{ShownChange}
+use Rattle.sb_compare.proofs.Walks.{AreAllSoFar, ArePutSoFar}
 use Rattle.sb_compare.proofs.ClassLemmas.{same_change}
 use Rattle.sb_compare.proofs.ShownCallLemmas.{test_at}
 

@@ -1,5 +1,5 @@
 -- The lines of changes.
-use Rattle.std.specs.Prelude.{ℕ, Bool, true, false, List, [], ◌∷◌, ◌++◌, codes, if◌then◌else◌}
+use Rattle.std.specs.Prelude.{ℕ, List, [], ◌++◌, codes, if◌then◌else◌}
 use Rattle.std.specs.Fmt.{decimal}
 use Rattle.std.specs.List.{flat_map}
 use Rattle.sb_base.specs.Numbers.{hexadecimal}
@@ -8,26 +8,35 @@ use Rattle.sb_call.specs.declared.arguments.Arg.{Arg}
 use Rattle.sb_call.specs.declared.arguments.Arg.TheVariants as arg
 use Rattle.sb_call.specs.declared.tags.CallTag.{CallTag}
 use Rattle.sb_cover.specs.Lengths.{is_sendable}
-use Rattle.sb_rule.specs.declared.actions.Action.{Action}
 use Rattle.sb_rule.specs.declared.actions.Action.TheVariants.{Allow, Deny, Alarm, Fake, ReadOnly}
 use Rattle.sb_rule.specs.declared.verdicts.Verdict.{Verdict}
 use Rattle.sb_rule.specs.declared.verdicts.Verdict.TheVariants as verdict
 use Rattle.sb_text.specs.Tokens.{utf8_of}
+use Rattle.sb_transcript.specs.Fields.{verdict_text}
 use Rattle.sb_compare.specs.declared.changes.Change.{Change}
 use Rattle.sb_compare.specs.declared.changes.ShownChange.{ShownChange}
 
--- what a rule does, as a transcript has it, before its line
-abbrev pub action_words : Action → List ℕ
-action_words Allow = codes "performed rule "
-action_words ReadOnly = codes "performed readonly "
-action_words Fake = codes "faked rule "
-action_words Deny = codes "denied rule "
-action_words Alarm = codes "denied alarm "
+-- what is done with a call
+abbrev pub outcome_word : Verdict → List ℕ
+outcome_word verdict.NoRule = codes "denied"
+outcome_word (verdict.Rule line Allow) = codes "performed"
+outcome_word (verdict.Rule line ReadOnly) = codes "performed"
+outcome_word (verdict.Rule line Fake) = codes "faked"
+outcome_word (verdict.Rule line Deny) = codes "denied"
+outcome_word (verdict.Rule line Alarm) = codes "denied"
+
+-- the rule that decides, after a blank, as the transcript has it in the line of a call
+abbrev pub rule_text : Verdict → List ℕ
+rule_text verdict.NoRule = verdict_text verdict.NoRule
+rule_text (verdict.Rule line Allow) = verdict_text (verdict.Rule line Allow)
+rule_text (verdict.Rule line ReadOnly) = verdict_text (verdict.Rule line ReadOnly)
+rule_text (verdict.Rule line Fake) = codes " rule " ++ decimal line
+rule_text (verdict.Rule line Deny) = verdict_text (verdict.Rule line Deny)
+rule_text (verdict.Rule line Alarm) = verdict_text (verdict.Rule line Alarm)
 
 -- a verdict: `performed rule L`, `performed readonly L`, `faked rule L`, `denied rule L`, `denied alarm L` or `denied norule`
 abbrev pub verdict_words : Verdict → List ℕ
-verdict_words (verdict.Rule line action) = action_words action ++ decimal line
-verdict_words verdict.NoRule = codes "denied norule"
+verdict_words verdict = outcome_word verdict ++ rule_text verdict
 
 -- an argument after a blank: a number in hexadecimal after `0x`, or a string between quotes as it is
 abbrev pub argument_text : Arg → List ℕ

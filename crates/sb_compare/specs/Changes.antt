@@ -1,5 +1,5 @@
 -- How two policies answer a call.
-use Rattle.std.specs.Prelude.{◌≡◌, ◌&&◌, ◌||◌, ◌==◌, Bool, true, false, not, List, [], ◌∷◌}
+use Rattle.std.specs.Prelude.{◌≡◌, ◌&&◌, ◌||◌, ◌==◌, Bool, true, false, not, List}
 use Rattle.sb_call.specs.Arguments.{fits}
 use Rattle.sb_call.specs.declared.arguments.Arg.{Arg}
 use Rattle.sb_call.specs.declared.tags.CallTag.{CallTag}

@@ -1,5 +1,5 @@
 -- What `compare` writes.
-use Rattle.std.specs.Prelude.{◌≡◌, ◌+◌, ℕ, Bool, not, List, ◌++◌, codes, length}
+use Rattle.std.specs.Prelude.{ℕ, Bool, not, List, ◌++◌, codes, length}
 use Rattle.std.specs.Fmt.{decimal}
 use Rattle.std.specs.List.{count_by, filter, flat_map, list_any}
 use Rattle.sb_rule.specs.WellMade.{is_named}

@@ -21,7 +21,3 @@ abbrev pub AreCompared : List Policy → List Policy → List ShownChange → Ty
 AreCompared olds [] shown = shown ≡ []
 AreCompared olds (new ∷ news) shown =
     (here : List ShownChange) × (later : List ShownChange) × (shown ≡ here ++ later) × AreChangesFrom (policy_named new.name olds) new here × AreCompared olds news later
-
--- what was compared so far, with what is still to come
-abbrev pub AreComparedSoFar : List Policy → List Policy → List Policy → List ShownChange → Type 0
-AreComparedSoFar olds all rest shown = (later : List ShownChange) → AreCompared olds rest later → AreCompared olds all (shown ++ later)

@@ -51,15 +51,6 @@ IsDecidedPut tag policy verdict before after =
 abbrev pub AreDecidedPut : CallTag → Policy → List Verdict → List Decided → List Decided → Type 0
 AreDecidedPut tag policy verdicts before after = (here : List Decided) × (after ≡ before ++ here) × AreDecided tag policy verdicts here
 
--- what was put of the first verdicts, with what is told of the rest, is told of all
-abbrev pub AreDecidedSoFar : CallTag → Policy → List Verdict → List Verdict → List Decided → List Decided → Type 0
-AreDecidedSoFar tag policy all rest before after =
-    (here : List Decided) × (after ≡ before ++ here) × ((later : List Decided) → AreDecided tag policy rest later → AreDecided tag policy all (here ++ later))
-
--- the same of tags
-abbrev pub AreAllDecidedSoFar : Policy → List CallTag → List CallTag → List Decided → Type 0
-AreAllDecidedSoFar policy all rest list = (later : List Decided) → AreAllDecided policy rest later → AreAllDecided policy all (list ++ later)
-
 -- the shorter one of two calls, as far as there are any
 abbrev pub shorter_of : Option (List Arg) → Option (List Arg) → Option (List Arg)
 shorter_of None b = b

@@ -1,5 +1,5 @@
 -- Which changes are shown, each with a call.
-use Rattle.std.specs.Prelude.{◌≡◌, ◌⊎◌, ◌++◌, ◌∷◌, Bool, true, false, List, []}
+use Rattle.std.specs.Prelude.{◌≡◌, ◌⊎◌, ◌++◌, ◌∷◌, true, false, List, []}
 use Rattle.std.specs.List.{list_all}
 use Rattle.sb_call.specs.Arguments.{fits}
 use Rattle.sb_call.specs.declared.arguments.Arg.{Arg}
@@ -52,13 +52,3 @@ IsChangePut tag old new change before after =
 -- of some changes those that are shown are put
 abbrev pub ArePut : CallTag → Policy → Policy → List Change → List ShownChange → List ShownChange → Type 0
 ArePut tag old new changes before after = (here : List ShownChange) × (after ≡ before ++ here) × AreShown tag old new changes here
-
--- what was put of the first changes, with what is shown of the rest, is shown of all
-abbrev pub ArePutSoFar : CallTag → Policy → Policy → List Change → List Change → List ShownChange → List ShownChange → Type 0
-ArePutSoFar tag old new all rest before after =
-    (here : List ShownChange) × (after ≡ before ++ here) × ((later : List ShownChange) → AreShown tag old new rest later → AreShown tag old new all (here ++ later))
-
--- the same of tags
-abbrev pub AreAllSoFar : Policy → Policy → List CallTag → List CallTag → List ShownChange → List ShownChange → Type 0
-AreAllSoFar old new all rest before after =
-    (here : List ShownChange) × (after ≡ before ++ here) × ((later : List ShownChange) → AreAllChanges old new rest later → AreAllChanges old new all (here ++ later))

@@ -2,25 +2,41 @@
 ghost use Rattle.std.specs.Prelude.{◌≡◌, ◌++◌, OnOk, codes};
 ghost use Rattle.std.specs.List.{flat_map};
 ghost use Rattle.sb_text.specs.Tokens.{utf8_of};
-ghost use Rattle.sb_compare.specs.ChangeLines.{action_words, argument_text, call_text, change_head, change_line, length_text, verdict_words, verdicts_text};
+ghost use Rattle.sb_compare.specs.ChangeLines.{argument_text, call_text, change_head, change_line, length_text, outcome_word, rule_text, verdict_words, verdicts_text};
 
 use crate::changes::{Change, ShownChange};
 use sb_base::{NoMemory, put_hexadecimal, put_named};
 use sb_call::{Arg, CallTag, call_word};
 use sb_cover::is_sendable;
 use sb_rule::{Action, Verdict};
+use sb_transcript::put_verdict;
 
 // Each of these appends to the text. After an error the text may end anywhere.
 
-fn action_words(action: Action) -> &'static [u8]
-    ensures { result.now ≡ action_words action }
+// What is done with a call.
+fn outcome_word(verdict: Verdict) -> &'static [u8]
+    ensures { result.now ≡ outcome_word verdict }
 {
-    match action {
-        Action::Allow => b"performed rule ",
-        Action::ReadOnly => b"performed readonly ",
-        Action::Fake => b"faked rule ",
-        Action::Deny => b"denied rule ",
-        Action::Alarm => b"denied alarm ",
+    match verdict {
+        Verdict::NoRule => b"denied",
+        Verdict::Rule { line: _, action } => match action {
+            Action::Allow | Action::ReadOnly => b"performed",
+            Action::Fake => b"faked",
+            Action::Deny | Action::Alarm => b"denied",
+        },
+    }
+}
+
+// The rule that decides. One that fakes a call is shown as `rule`.
+fn put_rule(text: &mut Vec<u8>, verdict: Verdict) -> Result<(), NoMemory>
+    ensures { OnOk result (text.new.items ≡ text.old.items ++ rule_text verdict) }
+{
+    match verdict {
+        Verdict::Rule {
+            line,
+            action: Action::Fake,
+        } => put_named(text, b" rule ", u64::from(line)),
+        _ => put_verdict(text, verdict),
     }
 }
 
@@ -28,13 +44,11 @@ fn action_words(action: Action) -> &'static [u8]
 ///
 /// # Errors
 /// `NoMemory` if there was none for it; then a part may have been appended.
-pub(crate) fn put_verdict(text: &mut Vec<u8>, verdict: Verdict) -> Result<(), NoMemory>
+pub(crate) fn put_verdict_words(text: &mut Vec<u8>, verdict: Verdict) -> Result<(), NoMemory>
     ensures { OnOk result (text.new.items ≡ text.old.items ++ verdict_words verdict) }
 {
-    match verdict {
-        Verdict::NoRule => Ok(text.extend_from_slice(b"denied norule")?),
-        Verdict::Rule { line, action } => put_named(text, action_words(action), u64::from(line)),
-    }
+    text.extend_from_slice(outcome_word(verdict))?;
+    put_rule(text, verdict)
 }
 
 fn put_quoted(text: &mut Vec<u8>, units: &[u16]) -> Result<(), NoMemory>
@@ -94,9 +108,9 @@ fn put_length(text: &mut Vec<u8>, args: &[Arg]) -> Result<(), NoMemory>
 fn put_verdicts(text: &mut Vec<u8>, change: Change) -> Result<(), NoMemory>
     ensures { OnOk result (text.new.items ≡ text.old.items ++ verdicts_text change) }
 {
-    put_verdict(text, change.old)?;
+    put_verdict_words(text, change.old)?;
     text.extend_from_slice(b" -> ")?;
-    put_verdict(text, change.new)
+    put_verdict_words(text, change.new)
 }
 
 // What comes before the call: `changed POLICY OLD -> NEW: `.

@@ -58,36 +58,19 @@ fn count_less(shown: &[ShownChange]) -> usize
 fn is_in(policies: &[Policy], policy: &Policy) -> bool
     ensures { result ≡ is_in policies.now policy.now }
 {
-    for other in policies {
-        if other.name == policy.name {
-            return true;
-        }
-    }
-    false
+    policies.iter().any(|other| other.name == policy.name)
 }
 
 fn count_both(theirs: &[Policy], ours: &[Policy]) -> usize
     ensures { result ≡ count_both theirs.now ours.now }
 {
-    let mut count = 0;
-    for policy in ours {
-        if is_in(theirs, policy) {
-            count += 1;
-        }
-    }
-    count
+    ours.iter().filter(|policy| is_in(theirs, policy)).count()
 }
 
 fn count_only(theirs: &[Policy], ours: &[Policy]) -> usize
     ensures { result ≡ count_only theirs.now ours.now }
 {
-    let mut count = 0;
-    for policy in ours {
-        if !is_in(theirs, policy) {
-            count += 1;
-        }
-    }
-    count
+    ours.iter().filter(|policy| !is_in(theirs, policy)).count()
 }
 
 // Each of these appends to the text. After an error the text may end anywhere.

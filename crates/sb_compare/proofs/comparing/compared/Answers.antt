@@ -1,7 +1,8 @@
 use Rattle.std.proofs.Common.{◌≡◌, ◌∙◌, ◌∷◌, ◌++◌, ◌+◌, ap, drop, subst, sym}
 use Rattle.std.proofs.Math.ListN.{drop_of_length-le}
 use Rattle.std.proofs.lemmas.List.{at_drop_more}
-use Rattle.sb_compare.specs.Comparing.{AreCompared, AreComparedSoFar}
+use Rattle.sb_compare.specs.Comparing.{AreCompared}
+use Rattle.sb_compare.proofs.Walks.{AreComparedSoFar}
 use Rattle.sb_compare.proofs.ComparedLemmas.{compared_all, compared_more, made_at}
 use Rattle.sb_compare.proofs.comparing.compared.Goals as goal
 

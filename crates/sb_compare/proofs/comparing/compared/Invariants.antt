@@ -1,5 +1,5 @@
 use Rattle.std.proofs.Common.{drop}
-use Rattle.sb_compare.specs.Comparing.{AreComparedSoFar}
+use Rattle.sb_compare.proofs.Walks.{AreComparedSoFar}
 use Rattle.sb_compare.proofs.comparing.compared.Given as goal
 
 abbrev pub invariant-loop-new : goal.invariant-loop-new

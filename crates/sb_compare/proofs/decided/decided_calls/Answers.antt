@@ -2,7 +2,8 @@ use Rattle.std.proofs.Common.{◌≡◌, ◌∷◌, ◌+◌, drop, get_or, subst
 use Rattle.std.proofs.Math.ListN.{drop_of_length-le}
 use Rattle.std.proofs.lemmas.List.{at_drop_more}
 use Rattle.sb_call.specs.declared.tags.CallTag.TheVariants.{Ping}
-use Rattle.sb_compare.specs.Decided.{AreAllDecided, AreAllDecidedSoFar}
+use Rattle.sb_compare.specs.Decided.{AreAllDecided}
+use Rattle.sb_compare.proofs.Walks.{AreAllDecidedSoFar}
 use Rattle.sb_compare.proofs.DecidedLemmas.{decided_all, decided_more}
 use Rattle.sb_compare.proofs.decided.decided_calls.Goals as goal
 

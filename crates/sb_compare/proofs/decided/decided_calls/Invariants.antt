@@ -1,5 +1,5 @@
 use Rattle.std.proofs.Common.{drop}
-use Rattle.sb_compare.specs.Decided.{AreAllDecidedSoFar}
+use Rattle.sb_compare.proofs.Walks.{AreAllDecidedSoFar}
 use Rattle.sb_compare.proofs.decided.decided_calls.Given as goal
 
 abbrev pub invariant-loop-tag : goal.invariant-loop-tag

@@ -3,7 +3,7 @@ use Rattle.std.proofs.Math.ListN.{drop_of_length-le}
 use Rattle.std.proofs.lemmas.List.{at_drop_more}
 use Rattle.sb_rule.specs.declared.actions.Action.TheVariants.{Allow}
 use Rattle.sb_rule.specs.declared.verdicts.Verdict.TheVariants.{Rule}
-use Rattle.sb_compare.specs.Decided.{AreDecidedSoFar}
+use Rattle.sb_compare.proofs.Walks.{AreDecidedSoFar}
 use Rattle.sb_compare.proofs.DecidedLemmas.{verdicts_all, verdicts_more}
 use Rattle.sb_compare.proofs.decided.put_verdicts.Goals as goal
 

@@ -1,7 +1,6 @@
-use Rattle.std.proofs.Common.{◌≡◌, ◌∙◌, ◌++◌, ◌∷◌, [], false, inl, inr, Some, ap, refl, subst, sym}
+use Rattle.std.proofs.Common.{◌≡◌, ◌∙◌, ◌++◌, ◌∷◌, [], false, inl, inr, ap, refl, subst, sym}
 use Rattle.sb_compare.specs.Changes.{is_answered_alike}
 use Rattle.sb_compare.specs.ShownChanges.{IsShown}
-use Rattle.sb_compare.specs.declared.changes.ShownChange.{ShownChange}
 use Rattle.sb_compare.proofs.ShownChangeLemmas.{alike_none, found_shown, missing_none}
 use Rattle.sb_compare.proofs.shown_changes.put_change.Goals as goal
 

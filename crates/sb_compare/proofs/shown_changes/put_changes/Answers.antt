@@ -3,8 +3,8 @@ use Rattle.std.proofs.Math.ListN.{drop_of_length-le}
 use Rattle.std.proofs.lemmas.List.{at_drop_more}
 use Rattle.sb_rule.specs.declared.actions.Action.TheVariants.{Allow}
 use Rattle.sb_rule.specs.declared.verdicts.Verdict.TheVariants.{Rule}
-use Rattle.sb_compare.specs.ShownChanges.{ArePutSoFar}
 use Rattle.sb_compare.specs.declared.changes.Change.{Change}
+use Rattle.sb_compare.proofs.Walks.{ArePutSoFar}
 use Rattle.sb_compare.proofs.ShownChangeLemmas.{put_all, put_more, put_none}
 use Rattle.sb_compare.proofs.shown_changes.put_changes.Goals as goal
 

@@ -4,7 +4,7 @@ use Rattle.sb_cover.specs.Choices.{is_shown_arg}
 use Rattle.sb_rule.specs.WellMade.{is_well_made}
 use Rattle.sb_rule.specs.declared.policies.Policy.{Policy}
 use Rattle.sb_compare.specs.ShownCalls.{AreShortest}
-use Rattle.sb_compare.specs.ShownChanges.{ArePutSoFar}
+use Rattle.sb_compare.proofs.Walks.{ArePutSoFar}
 use Rattle.sb_compare.proofs.shown_changes.put_changes.Given as goal
 
 abbrev pub invariant-loop-change : goal.invariant-loop-change

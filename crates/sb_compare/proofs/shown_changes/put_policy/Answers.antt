@@ -2,8 +2,9 @@ use Rattle.std.proofs.Common.{◌≡◌, ◌∷◌, ◌++◌, ◌+◌, List, dro
 use Rattle.std.proofs.Math.ListN.{drop_of_length-le}
 use Rattle.std.proofs.lemmas.List.{at_drop_more}
 use Rattle.sb_call.specs.declared.tags.CallTag.TheVariants.{Ping}
-use Rattle.sb_compare.specs.ShownChanges.{AreAllChanges, AreAllSoFar}
+use Rattle.sb_compare.specs.ShownChanges.{AreAllChanges}
 use Rattle.sb_compare.specs.declared.changes.ShownChange.{ShownChange}
+use Rattle.sb_compare.proofs.Walks.{AreAllSoFar}
 use Rattle.sb_compare.proofs.ShownChangeLemmas.{tag_more, tags_all}
 use Rattle.sb_compare.proofs.shown_changes.put_policy.Goals as goal
 

@@ -1,5 +1,5 @@
 use Rattle.std.proofs.Common.{drop}
-use Rattle.sb_compare.specs.ShownChanges.{AreAllSoFar}
+use Rattle.sb_compare.proofs.Walks.{AreAllSoFar}
 use Rattle.sb_compare.proofs.shown_changes.put_policy.Given as goal
 
 abbrev pub invariant-loop-tag : goal.invariant-loop-tag
