@@ -1,11 +1,12 @@
-/* The library for brokers in C, C++ and Rust: the check of a copy that is not trusted, the block of a call, the caller's side of a call on memory that
- * the other side may overwrite at any time, and the texts of literals in policies.
+/* The library for brokers in C, C++ and Rust: policies and their verdicts, the worker of a target and the caller's side of a call on memory that the other
+ * side may overwrite at any time, the check of a copy that is not trusted, the block of a call, and the texts of literals in policies.
  *
  * What is proved of these functions is what the comments say, for any numbers. What nothing checks is C's part:
  *
  * - Pointers are not null, also for length 0, lengths are right, and what one call is given does not overlap.
  * - The caller makes each step as planned: one atomic, sequentially consistent load, store or compare-exchange of that 64-bit word of that channel,
  *   once, and tells what that step found. It stores nothing else into the channels.
+ * - A handle is not copied while it holds something, only functions of this library change it, and one call at a time is given it, all on one thread.
  * - `malloc`, `realloc` and `free` are those of one allocator, and no function that allocates is called in a signal handler, or in the child of a fork
  *   of a process with threads.
  *
@@ -40,6 +41,8 @@ enum sb_outcome { SB_PERFORMED = 0, SB_REFUSED = 1, SB_DENIED = 2, SB_FAKED = 3 
 
 enum sb_call_kind { SB_NOT_ENDED = 0, SB_REPLY = 1, SB_FOREIGN = 2, SB_NO_CHANNEL = 3, SB_SEND_LOST = 4, SB_TIMED_OUT = 5 };
 
+enum sb_action { SB_ALLOW = 0, SB_DENY = 1, SB_ALARM = 2, SB_FAKE = 3, SB_READONLY = 4 };
+
 /* How many words a channel has: its state, and the 64 words of a block. */
 #define SB_CHANNEL_WORDS 65
 
@@ -54,6 +57,48 @@ typedef struct sb_argument {
     uint32_t room;
     uint64_t number;
 } sb_argument;
+
+/* What the library keeps on the heap for the caller. Zeros hold nothing, so `sb_handle h = {0};` is valid, and so is a handle that was freed. The fields
+ * are for the library. */
+typedef struct sb_handle {
+    uint64_t live;
+    void *at;
+} sb_handle;
+
+/* The first fault of a policy text: its line from 1, its column from 1 (0 if no place in a line is meant), and its number from 1 to 13. */
+typedef struct sb_text_fault {
+    uint32_t line;
+    uint32_t column;
+    uint64_t number;
+} sb_text_fault;
+
+/* What a policy says of a call: the line of the rule that decides, from 1, and its action; or, with `has_rule` 0, that no rule holds. `room` is 0. */
+typedef struct sb_call_verdict {
+    uint32_t has_rule;
+    uint32_t line;
+    uint32_t action;
+    uint32_t room;
+} sb_call_verdict;
+
+/* What is decided of a copy: its outcome; of a call its number, the rule that decided, and how many arguments are granted; and of a copy that is refused the
+ * number of its first fault, from 1 to 10. What there is none of is 0. */
+typedef struct sb_copy_decision {
+    uint32_t outcome;
+    uint32_t call;
+    uint32_t has_rule;
+    uint32_t line;
+    uint32_t action;
+    uint32_t fault;
+    uint64_t arguments;
+} sb_copy_decision;
+
+/* What a host answers to a call that it performed: a Windows status code, the handle that the target is granted or 0, and at most 7 extended words. */
+typedef struct sb_host_answer {
+    uint32_t status;
+    uint32_t count;
+    uint64_t handle;
+    uint64_t words[7];
+} sb_host_answer;
 
 /* One step: its kind, the channel from 0, and the word of it from 0 (the state) to 64. An exchange stores `value` if the word is `expected`. */
 typedef struct sb_step {
@@ -101,6 +146,66 @@ typedef struct sb_call_ending {
 
 /* The version of this header with which the library was built. */
 uint32_t sb_version(void);
+
+/* Empties a handle, and frees what it held. SB_BAD_CALL exactly if it held nothing, so freeing twice changes nothing. */
+uint32_t sb_free(sb_handle *handle);
+
+/* Reads the policies of a text of at most 4,194,304 bytes into a handle that is empty or holds policies, in place of those. SB_FAULT: the text has a fault,
+ * and `fault` is the first. SB_BAD_CALL exactly if the text is longer, or the handle holds something else. Unless SB_OK, the handle stays as it was. */
+uint32_t sb_policies_load(sb_handle *policies, const uint8_t *text, size_t byte_count, sb_text_fault *fault);
+
+/* How many policies there are, 0 if the handle holds none. Does not allocate. */
+size_t sb_policies_count(sb_handle *policies);
+
+/* Writes the number, from 0, of the policy of this name. SB_BAD_CALL exactly if there is none. Does not allocate. */
+uint32_t sb_policies_find(sb_handle *policies, const uint8_t *name, size_t byte_count, uint32_t *number);
+
+/* Writes the name of the policy with this number, and how many bytes it has. SB_BAD_CALL exactly if there is no such policy; SB_NO_ROOM: the name needs
+ * more than `room` bytes. Does not allocate. */
+uint32_t sb_policies_name(sb_handle *policies, uint32_t number, uint8_t *name, size_t room, size_t *byte_count);
+
+/* Writes the verdict of the policy with this number on a call, of which each string is a part of the units. SB_BAD_CALL exactly if there is no such policy
+ * or call, a string does not lie within the units, or the arguments are not those of the call. SB_NO_MEMORY only after each string was found within the
+ * units, and the call was found. */
+uint32_t sb_judge(sb_handle *policies, uint32_t policy, uint64_t call, const sb_argument *arguments, size_t argument_count, const uint16_t *units,
+                  size_t unit_count, sb_call_verdict *verdict);
+
+/* The worker of a target with 1 to 8 channels: it tells the host which step to make on a channel, and is told what that step found. The host takes the turn
+ * at SB_TAKE and gives it back at SB_GIVE, if several workers perform on the same objects. At SB_ANSWER it calls `sb_worker_decide`, then reads the arguments
+ * that are granted and performs the call with these alone, if the outcome is SB_PERFORMED, and then calls `sb_worker_reply`.
+ *
+ * `sb_worker_new` puts a worker into a handle that holds nothing; `sb_worker_adopt` one whose channels had a worker that makes no more steps: it begins with
+ * an exchange of the state of each channel, so that no call is performed twice. SB_BAD_CALL exactly if the handle holds something or there are fewer or more
+ * channels. */
+uint32_t sb_worker_new(sb_handle *worker, uint32_t channels);
+uint32_t sb_worker_adopt(sb_handle *worker, uint32_t channels);
+
+/* Writes the one next step. SB_BAD_CALL exactly if the handle holds no worker; then the step is SB_IDLE. Does not allocate. */
+uint32_t sb_worker_plan(sb_handle *worker, sb_step *step);
+
+/* Goes on by what the next step found: a load or an exchange the value that was there, SB_TAKE any number but 0 if the turn was taken; of a store, and of
+ * SB_GIVE, any number. SB_BAD_CALL exactly if the handle holds no worker, or its next step is SB_ANSWER. Does not allocate. */
+uint32_t sb_worker_after(sb_handle *worker, uint64_t found);
+
+/* How many of the next steps, each of which moves one word, the host may make in a row: loads from `word` of the next step on, told by `sb_worker_loaded`,
+ * or stores of what `sb_worker_values` writes, told by `sb_worker_stored`. Each is one atomic step all the same, in order. 0 if the handle holds no worker.
+ * SB_BAD_CALL exactly if the handle holds no worker or, of the last two, its next steps are not as many of that kind. None of these allocates. */
+uint32_t sb_worker_moves(sb_handle *worker);
+uint32_t sb_worker_loaded(sb_handle *worker, const uint64_t *values, size_t count);
+uint32_t sb_worker_values(sb_handle *worker, uint64_t *values, size_t room, size_t *count);
+uint32_t sb_worker_stored(sb_handle *worker, uint32_t count);
+
+/* Decides the copy by the policy with this number, and writes what is decided. SB_BAD_CALL exactly if there is no worker whose next step is SB_ANSWER, the copy
+ * is decided already, or there is no such policy. SB_NO_MEMORY only if the copy asks for a call. */
+uint32_t sb_worker_decide(sb_handle *worker, sb_handle *policies, uint32_t policy, sb_copy_decision *decision);
+
+/* Writes the argument with this number, from 0, that is granted; a string is put at the front of the units, and has `length` of them. SB_BAD_CALL exactly if
+ * the handle holds no worker, or it grants fewer arguments; SB_NO_ROOM exactly if the string has more than `room` units. Does not allocate. */
+uint32_t sb_worker_argument(sb_handle *worker, uint32_t number, sb_argument *argument, uint16_t *units, size_t room);
+
+/* Goes on from SB_ANSWER by the reply to what was decided: the host's answer if the call is performed, and else what the decision says, whatever the host
+ * answers. SB_BAD_CALL exactly if there is no worker whose next step is SB_ANSWER, or nothing is decided. Does not allocate. */
+uint32_t sb_worker_reply(sb_handle *worker, const sb_host_answer *answer);
 
 /* Looks for the first fault of a copy, before which this count and this end were loaded. THE WORDS ARE A COPY THAT NOBODY WRITES, never the channel.
  * SB_OK exactly if it has none; SB_FAULT with the fault; SB_BAD_CALL exactly if a worker makes no such copy. Does not allocate. */

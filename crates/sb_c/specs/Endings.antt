@@ -1,6 +1,5 @@
 -- How a call ended, as C sees it.
 use Rattle.std.specs.Prelude.{ℕ, List, [], ◌∷◌, replicate, slice_index, Option, None, Some}
-use Rattle.sb_call.specs.declared.replies.Reply.{Reply as ReplyTo}
 use Rattle.sb_block.specs.Replies.{reply_words}
 use Rattle.sb_statements.specs.declared.results.CallResult.{CallResult}
 use Rattle.sb_statements.specs.declared.results.CallResult.TheVariants.{Reply, NoChannel, SendLost, Foreign, TimedOut}

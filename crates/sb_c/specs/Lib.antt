@@ -4,3 +4,10 @@ pub mod Blocks
 pub mod Endings
 pub mod Steps
 pub mod Texts
+pub mod Owning
+pub mod Handles
+pub mod Contents
+pub mod Policies
+pub mod Verdicts
+pub mod Workers
+pub mod Decisions

@@ -1,5 +1,5 @@
 -- The texts of literals for C.
-use Rattle.std.specs.Prelude.{◌≡◌, ◌<◌, ℕ, true, false, not, List, length, Option, None, Some}
+use Rattle.std.specs.Prelude.{◌≡◌, ◌<◌, ℕ, true, false, not, List, length, Option, Some}
 use Rattle.sb_host.specs.Literals.{IsPatternLiteral, IsStringLiteral, has_pattern_literal, has_star, has_string_literal}
 use Rattle.sb_c.specs.declared.statuses.Status.{Status}
 use Rattle.sb_c.specs.declared.statuses.Status.TheVariants as status

@@ -25,7 +25,7 @@ fn shown(number: u32, count: u32, first: u64, second: u64) -> CopyFault
 }
 
 // A fault as C sees it.
-fn fault_shown(fault: BlockFault) -> CopyFault
+pub(crate) fn fault_shown(fault: BlockFault) -> CopyFault
     ensures { IsFaultShown fault result }
 {
     match fault {
@@ -61,7 +61,8 @@ pub extern "C" fn sb_block_check(count: u64, end: u64, words: &[u64], fault: &mu
     }
 }
 
-fn tag_of(call: u64) -> Option<CallTag>
+/// The call with this number.
+pub(crate) fn tag_of(call: u64) -> Option<CallTag>
     ensures { result ≡ tag_of call }
 {
     CallTag::try_from(call).ok()

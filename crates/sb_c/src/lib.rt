@@ -1,4 +1,5 @@
-// The library for brokers in C, C++ and Rust, as functions that C calls: blocks, the caller's side of a call, and the texts of literals.
+// The library for brokers in C, C++ and Rust, as functions that C calls: policies and their verdicts, the worker of a target, blocks,
+// the caller's side of a call, and the texts of literals.
 // It is thin over sb_host. No function touches shared memory, waits, or keeps anything outside what C holds.
 //
 // Every function may be called at any time with any numbers: what does not fit is a status that changes nothing. What C has to keep is in
@@ -8,9 +9,17 @@
 mod arguments;
 mod blocks;
 mod calls;
+mod decisions;
+mod frees;
+mod handles;
+mod helds;
 mod literals;
+mod parcels;
+mod policies;
 mod rooms;
 mod shapes;
 mod statuses;
 mod steps;
+mod verdicts;
 mod versions;
+mod workers;

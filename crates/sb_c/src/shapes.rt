@@ -67,3 +67,63 @@ pub struct CallEnding {
     /// Of a reply: its extended words, and then zeros.
     pub words: [u64; 7],
 }
+
+/// What a policy says of a call.
+#[repr(C)]
+#[derive(Clone, Copy)]
+pub struct CallVerdict {
+    /// 1 if a rule decides, and 0 if none holds.
+    pub has_rule: u32,
+    /// The line of the rule in the policy text, from 1.
+    pub line: u32,
+    /// 0 allow, 1 deny, 2 alarm, 3 fake, 4 readonly.
+    pub action: u32,
+    /// 0.
+    pub room: u32,
+}
+
+/// The first fault of a policy text.
+#[repr(C)]
+#[derive(Clone, Copy)]
+pub struct TextFault {
+    /// The line, from 1.
+    pub line: u32,
+    /// The column, from 1; 0 if no place in a line is meant.
+    pub column: u32,
+    /// The number of the fault, from 1 to 13, as the program prints it.
+    pub number: u64,
+}
+
+/// What is decided of a copy.
+#[repr(C)]
+#[derive(Clone, Copy)]
+pub struct CopyDecision {
+    /// 0 performed, 1 refused, 2 denied, 3 faked.
+    pub outcome: u32,
+    /// The number of the call, 0 if the copy is refused.
+    pub call: u32,
+    /// 1 if a rule decided, and 0 if none did.
+    pub has_rule: u32,
+    /// The line of the rule in the policy text, from 1.
+    pub line: u32,
+    /// 0 allow, 1 deny, 2 alarm, 3 fake, 4 readonly.
+    pub action: u32,
+    /// The number of the fault of a copy that is refused, from 1 to 10, and 0 of any other.
+    pub fault: u32,
+    /// How many arguments are granted.
+    pub arguments: u64,
+}
+
+/// What the host answers to a call that is performed.
+#[repr(C)]
+#[derive(Clone, Copy)]
+pub struct HostAnswer {
+    /// A Windows status code.
+    pub status: u32,
+    /// How many of the words are told, at most 7.
+    pub count: u32,
+    /// The handle that the target is granted, or 0.
+    pub handle: u64,
+    /// The extended words.
+    pub words: [u64; 7],
+}
