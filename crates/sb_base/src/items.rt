@@ -1,5 +1,5 @@
 // A list of values.
-ghost use Rattle.std.specs.Prelude.{◌≡◌, ◌++◌, ◌∷◌, [], length, OnOk, OnErr};
+ghost use Rattle.std.specs.Prelude.{◌≡◌, ◌++◌, ◌∷◌, [], length, MatchOption, OnOk, OnErr};
 ghost use Rattle.std.specs.Slice.Iter.{iter_rest};
 
 use crate::memory::NoMemory;
@@ -81,6 +81,26 @@ impl<T: Drop> Items<T> {
     {
         self.items.push(item)?;
         Ok(())
+    }
+
+    /// Appends the items of another list. After an error the list is as it was.
+    ///
+    /// # Errors
+    /// `NoMemory` if there is none for them.
+    pub fn append(&mut self, items: Items<T>) -> Result<(), NoMemory>
+        ensures ok { OnOk result (self.new ≡ self.old ++ items) }
+        ensures err { OnErr result (self.new ≡ self.old) }
+    {
+        let mut items = items.into_items();
+        self.items.append(&mut items)?;
+        Ok(())
+    }
+
+    /// Takes out the last item. None exactly if there is none.
+    pub fn pop(&mut self) -> Option<T>
+        ensures { MatchOption result ((self.old ≡ []) × (self.new ≡ [])) (λ last. self.old ≡ self.new ++ last ∷ []) }
+    {
+        self.items.pop()
     }
 }
 

@@ -12,7 +12,6 @@ mod refusals;
 mod strings;
 mod surrogates;
 mod units;
-mod words;
 
 pub use items::Items;
 pub use laws::{
@@ -28,4 +27,3 @@ pub use refusals::{Refused, UnknownNumber};
 pub use strings::Wide;
 pub use surrogates::{is_high_surrogate, is_low_surrogate, is_well_formed_utf16};
 pub use units::{BACKSLASH, QUESTION, QUOTE, SLASH, STAR};
-pub use words::is_word;

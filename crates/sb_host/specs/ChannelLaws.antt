@@ -9,7 +9,7 @@ use Rattle.sb_actor.specs.Ranges.{IsSoundThreadStage}
 use Rattle.sb_actor.specs.Rule.{as_served, calls_of}
 use Rattle.sb_actor.specs.ThreadStages.{ThreadStage, Try, Fill, Send, Wait, Fetch, Free, Abandon, Stray, Over}
 use Rattle.sb_actor.specs.Ties.{thread_deed, thread_place_of}
-use Rattle.sb_actor.specs.Views.{Had, ThreadView, WorkerView}
+use Rattle.sb_actor.specs.Views.{EndedCall, ThreadView, WorkerView}
 use Rattle.sb_host.specs.Calls.{CallAt, call_after, call_plan}
 
 -- the words of all channels of a target, and what is seen of its worker and of its callers
@@ -51,7 +51,7 @@ pub record AreNew (channels : ℕ) (s : Channels) : Type 0 where
 abbrev pub CallsHaveTheirReplies : Type 0
 CallsHaveTheirReplies = (channels : ℕ) (s end : Channels) (steps : List ChannelStep) → AreNew channels s → IsRun s steps end
     → (i : ℕ) (v : ThreadView) → get_elem? end.callers i ≡ some v
-    → (late : List Had) × (length late ≤ 1) × (calls_of (all_clean channels) i end.worker.served ≡ map as_served (v.had ++ late))
+    → (late : List EndedCall) × (length late ≤ 1) × (calls_of (all_clean channels) i end.worker.served ≡ map as_served (v.ended_calls ++ late))
 
 -- the call gives up its channel next
 abbrev pub is_giving_up : ThreadStage → Bool

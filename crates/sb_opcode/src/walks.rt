@@ -1,4 +1,5 @@
-// The walk over the opcodes of a code.
+// The walk over the opcodes of a code. Rules whose tests are all lone ones, of a number, a prefix or an equal name, have a walk of their own:
+// without it a verdict by one rule takes 1.3 to 1.5 times as long.
 ghost use Rattle.std.specs.Prelude.{◌≡◌, ◌≤◌, true, false, length, MatchOption};
 ghost use Rattle.sb_call.specs.Arguments.{fits};
 ghost use Rattle.sb_opcode.specs.Groups.{after_action};

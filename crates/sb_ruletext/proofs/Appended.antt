@@ -1,9 +1,9 @@
 -- What is appended for each element of a list, one after another.
 use Rattle.std.proofs.Common.{◌≡◌, ◌∙◌, ◌<◌, ◌+◌, ◌++◌, ◌∷◌, [], ℕ, Bool, true, List, refl, ap, sym, get_or, length, take}
+use Rattle.std.proofs.lemmas.Bool.{and_from}
 use Rattle.std.proofs.lemmas.List.{append_assoc, take_more}
 use Rattle.std.proofs.lemmas.List.Folds.{list_all-append}
 use Rattle.std.specs.List.{list_all}
-use Rattle.sb_ruletext.proofs.Conjunctions.{and_true}
 
 -- the elements so far, and the next one
 pub next_taken : {A : Type 0} (xs : List A) (i : ℕ) (x : A) → i < length xs → x ≡ get_or xs i x → take (i + 1) xs ≡ take i xs ++ x ∷ []
@@ -19,4 +19,4 @@ part_appended text_of xs i x part old now next taken more so_far put =
 -- a test that holds of the elements so far, and of the next one
 pub all_next : {A : Type 0} (p : A → Bool) (xs : List A) (i : ℕ) (x : A) → take (i + 1) xs ≡ take i xs ++ x ∷ []
     → list_all p (take i xs) ≡ true → p x ≡ true → list_all p (take (i + 1) xs) ≡ true
-all_next p xs i x taken so_far k = ap (list_all p) taken ∙ list_all-append p (take i xs) (x ∷ []) ∙ and_true _ _ so_far (and_true _ _ k refl)
+all_next p xs i x taken so_far k = ap (list_all p) taken ∙ list_all-append p (take i xs) (x ∷ []) ∙ and_from _ _ so_far (and_from _ _ k refl)

@@ -16,4 +16,3 @@ pub mod Prefixes
 pub mod Renumbered
 pub mod ReadWellMade
 mod NoteWalks
-pub mod NotedReading

@@ -1,5 +1,6 @@
 -- The strings and patterns that are read can be written between quotes.
 use Rattle.std.proofs.Common.{◌≡◌, refl, sym, subst, ℕ, List, Bool, true, false, nat_le, nat_lt, length, Option, Some, Ok, arith, cond}
+use Rattle.std.proofs.lemmas.Bool.{and_from}
 use Rattle.std.proofs.lemmas.Bool.Decides.{nat_tests}
 use Rattle.std.specs.List.{list_all}
 use Rattle.sb_rule.specs.PatternReading.{reading, star_fault, cells_of, unless, TextsComeBack, ReadingGivesPatterns}
@@ -9,12 +10,11 @@ use Rattle.sb_rule.specs.declared.pattern_faults.PatternFault.TheVariants.{TooLo
 use Rattle.sb_rule.specs.WellMade.{is_policy_text, is_like_text}
 use Rattle.sb_base.specs.Wide.{is_text_unit}
 use Rattle.sb_base.specs.Surrogates.{is_paired}
-use Rattle.sb_ruletext.proofs.Conjunctions.{and_true}
 
 -- text of at most 256 units
 pub short_text : (text : List ℕ) → nat_le (length text) 256 ≡ true
     → (list_all is_text_unit text ≡ true) × (is_paired text ≡ true) → is_policy_text text ≡ true
-short_text text h k = and_true _ _ (and_true _ _ h k.0) k.1
+short_text text h k = and_from _ _ (and_from _ _ h k.0) k.1
 
 too_long : (b : Bool) (fault : Option PatternFault) (cells read : List Cell)
     → unless (cond b (Some TooLong) fault) cells ≡ Ok read → b ≡ false
@@ -31,4 +31,4 @@ read_is_short text cells h =
 pub read_like : TextsComeBack → ReadingGivesPatterns → (text : List ℕ) (cells : List Cell) → reading text ≡ Ok cells
     → (list_all is_text_unit text ≡ true) × (is_paired text ≡ true) → is_like_text cells ≡ true
 read_like texts patterns text cells h k =
-    and_true _ _ (patterns text cells h) (subst (λ us. is_policy_text us ≡ true) (sym (texts text cells h)) (short_text text (read_is_short text cells h) k))
+    and_from _ _ (patterns text cells h) (subst (λ us. is_policy_text us ≡ true) (sym (texts text cells h)) (short_text text (read_is_short text cells h) k))

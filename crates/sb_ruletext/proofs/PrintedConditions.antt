@@ -3,7 +3,7 @@ use Rattle.std.proofs.Common.{◌≡◌, ◌∙◌, ℕ, zero, suc, ◌^◌, ◌
 use Rattle.std.specs.Bool.{beq}
 use Rattle.std.specs.List.{flat_map, list_all}
 use Rattle.std.specs.Prelude.{codes}
-use Rattle.std.proofs.lemmas.Bool.{false≢true}
+use Rattle.std.proofs.lemmas.Bool.{false≢true, and_parts}
 use Rattle.std.proofs.lemmas.Bool.Decides.{nat_tests}
 use Rattle.sb_call.specs.declared.tags.CallTag.{CallTag}
 use Rattle.sb_call.specs.declared.tags.CallTag.TheVariants.{Ping, FileCreate, FileOpen, FileQuery, FileRename, PipeCreate, KeyCreate, KeyOpen, EventCreate, EventOpen, HandleClose}
@@ -31,7 +31,6 @@ use Rattle.sb_ruletext.specs.declared.faults.PolicyFaultKind.{PolicyFaultKind}
 use Rattle.sb_ruletext.specs.declared.faults.PolicyFaultKind.TheVariants.{UnknownWord, UnknownParam, BadNumber, BadPattern}
 use Rattle.sb_ruletext.specs.declared.faults.PolicyLimit.{PolicyLimit}
 use Rattle.sb_ruletext.specs.declared.faults.PolicyLimit.TheVariants.{Conditions, Numbers}
-use Rattle.sb_ruletext.proofs.Conjunctions.{both}
 use Rattle.sb_text.specs.Strings.{ComesBack, StringsComeBack}
 use Rattle.sb_ruletext.proofs.PrintedWords.{parameter_back, apart_at, within, number_back, range_back}
 
@@ -58,13 +57,13 @@ numbers_read : HexadecimalsAreRead → (m n : ℕ) (more : List ℕ) (rest : Lis
     → begins_with (codes "or") (placed rest) ≡ false → joined_at Numbers (suc m) (codes "or") number_at (placed (numbers_tokens (n ∷ more) ++ rest)) ≡ Ok (n ∷ more, placed rest)
 numbers_read law m n [] rest k h e =
     joined_step Numbers m (codes "or") number_at (placed (Word (number_word n) ∷ rest))
-    ∙ ap (λ r. r >>= and_others Numbers m (codes "or") number_at) (number_read law n rest (both _ _ h).0)
+    ∙ ap (λ r. r >>= and_others Numbers m (codes "or") number_at) (number_read law n rest (and_parts _ _ h).0)
     ∙ ap (λ t. cond t (joined_at Numbers m (codes "or") number_at (later (placed rest)) >>= λ others. Ok (n ∷ others.0, others.1)) (Ok (n ∷ [], placed rest))) e
 numbers_read law zero n (next ∷ more) rest k h e = absurd (omega arith)
 numbers_read law (suc m) n (next ∷ more) rest k h e =
     joined_step Numbers (suc m) (codes "or") number_at (placed (Word (number_word n) ∷ Word (codes "or") ∷ (numbers_tokens (next ∷ more) ++ rest)))
-    ∙ ap (λ r. r >>= and_others Numbers (suc m) (codes "or") number_at) (number_read law n (Word (codes "or") ∷ (numbers_tokens (next ∷ more) ++ rest)) (both _ _ h).0)
-    ∙ ap (λ r. r >>= λ others. Ok (n ∷ others.0, others.1)) (numbers_read law m next more rest (omega arith) (both _ _ h).1 e)
+    ∙ ap (λ r. r >>= and_others Numbers (suc m) (codes "or") number_at) (number_read law n (Word (codes "or") ∷ (numbers_tokens (next ∷ more) ++ rest)) (and_parts _ _ h).0)
+    ∙ ap (λ r. r >>= λ others. Ok (n ∷ others.0, others.1)) (numbers_read law m next more rest (omega arith) (and_parts _ _ h).1 e)
 
 -- strings and patterns
 
@@ -80,17 +79,17 @@ pub record Texts : Type 0 where
 
 -- a string of a policy comes back
 pub string_back : StringsComeBack → (us : List ℕ) → is_policy_text us ≡ true → ComesBack us
-string_back law us h = law us (both _ _ (both _ _ h).0).1 (both _ _ h).1
+string_back law us h = law us (and_parts _ _ (and_parts _ _ h).0).1 (and_parts _ _ h).1
 
 string_read : StringsComeBack → (us : List ℕ) → is_policy_text us ≡ true → string (utf8_of us) ≡ Ok us
 string_read law us h =
     let back = (string_back law us h).string in
-    let few : nat_le (length us) most_units ≡ true = (both _ _ (both _ _ h).0).0 in
+    let few : nat_le (length us) most_units ≡ true = (and_parts _ _ (and_parts _ _ h).0).0 in
     ap (λ us. cond (nat_le (length us) most_units) (Ok us) (Err (BadPattern TooLong))) back ∙ ap (λ t. cond t (Ok us) (Err (BadPattern TooLong))) few
 
 pattern_read : Texts → (tokens : Lexemes) (cs : List Cell) → is_like_text cs ≡ true → cells tokens (reading (string_of (utf8_of (text_of cs)))) ≡ Ok cs
 pattern_read laws tokens cs h =
-    ap (λ us. cells tokens (reading us)) (string_back laws.strings (text_of cs) (both _ _ h).1).string ∙ ap (cells tokens) (laws.patterns cs (both _ _ h).0)
+    ap (λ us. cells tokens (reading us)) (string_back laws.strings (text_of cs) (and_parts _ _ h).1).string ∙ ap (cells tokens) (laws.patterns cs (and_parts _ _ h).0)
 
 -- tests
 
@@ -112,7 +111,7 @@ test_read laws (OneOf (n ∷ more)) rest s v e =
     few : (more : List ℕ) → is_sensible (OneOf (n ∷ more)) ≡ true → length more ≤ 15
     few more s = grind (arith, nat_tests)
 test_read laws (Range lo hi) rest s v e =
-    ap (λ r. at_token (placed (Word (range_word lo hi) ∷ rest)) r >>= λ test. Ok (test, placed rest)) (range_back laws.numbers lo hi (number_small lo (both _ _ v).0) (number_small hi (both _ _ v).1) s)
+    ap (λ r. at_token (placed (Word (range_word lo hi) ∷ rest)) r >>= λ test. Ok (test, placed rest)) (range_back laws.numbers lo hi (number_small lo (and_parts _ _ v).0) (number_small hi (and_parts _ _ v).1) s)
 test_read laws (Mask mask) rest s v e = ap (λ r. r >>= λ mask. Ok (Mask mask.0, mask.1)) (number_read laws.numbers mask rest v)
 test_read laws (Equal text) rest s v e = ap (λ r. at_token (placed (Quoted (utf8_of text) ∷ rest)) r >>= λ text. Ok (Equal text, placed rest)) (string_read laws.strings text s)
 test_read laws (Like pattern) rest s v e =
@@ -154,11 +153,11 @@ plain_read : Texts → (negated : Bool) (tag : CallTag) (cond : Cond) (rest : Li
     ≡ Ok (record { param = cond.param; negated = negated; test = cond.test }, placed rest)
 plain_read laws negated tag cond rest h v e =
     let tokens = placed (test_tokens cond.test ++ rest) in
-    let kind = of_its_kind (is_number_test cond.test) (is_number_at tag cond.param) (both _ _ (both _ _ h).1).0 in
-    ap (λ o. (or_fails (placed (Word (parameter_word tag cond.param) ∷ (test_tokens cond.test ++ rest))) UnknownParam o >>= then_tokens tokens) >>= λ param. test_at (is_number_at tag param.0) param.1 >>= with_test param.0 negated)
-    (parameter_back tag cond.param (both _ _ h).0)
+    let kind = of_its_kind (is_number_test cond.test) (is_number_at tag cond.param) (and_parts _ _ (and_parts _ _ h).1).0 in
+    ap (λ o. (or_fails (placed (Word (parameter_word tag cond.param) ∷ (test_tokens cond.test ++ rest))) (UnknownParam tag) o >>= then_tokens tokens) >>= λ param. test_at (is_number_at tag param.0) param.1 >>= with_test param.0 negated)
+    (parameter_back tag cond.param (and_parts _ _ h).0)
     ∙ ap (λ t. test_at t tokens >>= with_test cond.param negated) kind
-    ∙ ap (λ r. r >>= with_test cond.param negated) (test_read laws cond.test rest (both _ _ (both _ _ h).1).1 v e)
+    ∙ ap (λ r. r >>= with_test cond.param negated) (test_read laws cond.test rest (and_parts _ _ (and_parts _ _ h).1).1 v e)
 
 condition_read : Texts → (tag : CallTag) (cond : Cond) (rest : List Lexeme)
     → is_well_formed tag cond ≡ true → is_test_of_values cond.test ≡ true → begins_with (codes "or") (placed rest) ≡ false
@@ -173,7 +172,7 @@ condition_read laws tag cond rest h v e = by_not cond.negated (λ negated. plain
         ≡ Ok (record { param = cond.param; negated = negated; test = cond.test }, placed rest)
     by_not true f = f true
     by_not false f =
-        let other = apart_at (codes "not") (parameter_words tag) cond.param (none_is_not tag) (within tag cond.param (both _ _ h).0) in
+        let other = apart_at (codes "not") (parameter_words tag) cond.param (none_is_not tag) (within tag cond.param (and_parts _ _ h).0) in
         let tokens = placed (Word (parameter_word tag cond.param) ∷ (test_tokens cond.test ++ rest)) in
         ap (λ t. if t then plain_condition_at true tag (later tokens) else plain_condition_at false tag tokens) other ∙ f false
 
@@ -186,19 +185,19 @@ abbrev and_tokens : CallTag → List Cond → List Lexeme
 and_tokens tag conds = flat_map (joined_tokens (codes "and") tag) conds
 
 pub later_sound : (tag : CallTag) (cond : Cond) (conds : List Cond) → AreSound tag (cond ∷ conds) → AreSound tag conds
-later_sound tag cond conds s = record { formed = (both _ _ s.formed).1; values = (both _ _ s.values).1 }
+later_sound tag cond conds s = record { formed = (and_parts _ _ s.formed).1; values = (and_parts _ _ s.values).1 }
 
 joined_read : Texts → (m : ℕ) (tag : CallTag) (cond : Cond) (more : List Cond)
     → length more ≤ m → AreSound tag (cond ∷ more)
     → joined_at Conditions (suc m) (codes "and") (condition_at tag) (placed (cond_tokens tag cond ++ and_tokens tag more)) ≡ Ok (cond ∷ more, placed [])
 joined_read laws m tag cond [] k s =
     joined_step Conditions m (codes "and") (condition_at tag) (placed (cond_tokens tag cond ++ []))
-    ∙ ap (λ r. r >>= and_others Conditions m (codes "and") (condition_at tag)) (condition_read laws tag cond [] (both _ _ s.formed).0 (both _ _ s.values).0 refl)
+    ∙ ap (λ r. r >>= and_others Conditions m (codes "and") (condition_at tag)) (condition_read laws tag cond [] (and_parts _ _ s.formed).0 (and_parts _ _ s.values).0 refl)
 joined_read laws zero tag cond (next ∷ more) k s = absurd (omega arith)
 joined_read laws (suc m) tag cond (next ∷ more) k s =
     let rest = Word (codes "and") ∷ (cond_tokens tag next ++ and_tokens tag more) in
     joined_step Conditions (suc m) (codes "and") (condition_at tag) (placed (cond_tokens tag cond ++ rest))
-    ∙ ap (λ r. r >>= and_others Conditions (suc m) (codes "and") (condition_at tag)) (condition_read laws tag cond rest (both _ _ s.formed).0 (both _ _ s.values).0 refl)
+    ∙ ap (λ r. r >>= and_others Conditions (suc m) (codes "and") (condition_at tag)) (condition_read laws tag cond rest (and_parts _ _ s.formed).0 (and_parts _ _ s.values).0 refl)
     ∙ ap (λ r. r >>= λ others. Ok (cond ∷ others.0, others.1)) (joined_read laws m tag next more (omega arith) (later_sound tag cond (next ∷ more) s))
 
 pub conditions_read : Texts → (tag : CallTag) (cond : Cond) (more : List Cond)

@@ -12,7 +12,7 @@ use Rattle.sb_rule.specs.declared.policies.Rule.{Rule}
 use Rattle.sb_text.specs.TokenLaws.{placed}
 use Rattle.sb_text.specs.Tokens.{Lexeme, Lexemes, Word}
 use Rattle.sb_rule.specs.Limits.{most_rules}
-use Rattle.sb_ruletext.proofs.Added.{added}
+use Rattle.sb_ruletext.proofs.Added.{added, behind, last_rules, policy_of}
 use Rattle.sb_ruletext.specs.Lines.{first_word_fault, when_of, rule, with_rules, with_last_rules, line_of}
 use Rattle.sb_ruletext.specs.Printing.{conds_tokens, rule_tokens}
 use Rattle.sb_text.specs.Steps.{◌>>=◌, or_fails, unless_fails, at_token, Read}
@@ -56,29 +56,6 @@ rule_read laws line action tag conds r k s =
     ∙ ap (λ conds. conds >>= ruled line action tag) (when_read laws tag conds k s)
 
 -- one rule more in the last policy
-
--- a policy with these rules
-abbrev pub policy_of : List ℕ → List Rule → Policy
-policy_of name rules = record { name = name; rules = rules }
-
--- the policies up to the last
-abbrev behind : List Policy → Policy → Result (List Policy) PolicyFaultKind
-behind done last = Ok (done ++ last ∷ [])
-
-last_rules : (done : List Policy) (policy : Policy) (rules : List Rule) → with_last_rules (done ++ policy ∷ []) rules ≡ with_rules policy rules >>= behind done
-unfolding with_last_rules
-last_rules [] policy rules = refl
-last_rules (first ∷ []) policy rules = more (with_rules policy rules)
-  where
-    more : (r : Result Policy PolicyFaultKind) → ((r >>= λ last. Ok (last ∷ [])) >>= λ others. Ok (first ∷ others)) ≡ r >>= behind (first ∷ [])
-    more (Ok last) = refl
-    more (Err kind) = refl
-last_rules (first ∷ second ∷ done) policy rules =
-    ap (λ r. r >>= λ others. Ok (first ∷ others)) (last_rules (second ∷ done) policy rules) ∙ more (with_rules policy rules)
-  where
-    more : (r : Result Policy PolicyFaultKind) → ((r >>= behind (second ∷ done)) >>= λ others. Ok (first ∷ others)) ≡ r >>= behind (first ∷ second ∷ done)
-    more (Ok last) = refl
-    more (Err kind) = refl
 
 added_last : (line : Lexemes) (done : List Policy) (policy : Policy) (rules : List Rule)
     → added line (done ++ policy ∷ []) (Ok rules) ≡ at_token line (with_last_rules (done ++ policy ∷ []) rules)

@@ -3,7 +3,7 @@ use Rattle.std.proofs.Common.{◌≡◌, ◌∙◌, ℕ, suc, ◌+◌, ◌<◌, 
 use Rattle.std.specs.Cmp.Lexicographic.{pointwise, bytes_decides}
 use Rattle.std.specs.List.{flat_map, list_all, list_any}
 use Rattle.std.specs.Prelude.{codes, nat_eq, if◌then◌else◌}
-use Rattle.std.proofs.lemmas.Bool.{false≢true}
+use Rattle.std.proofs.lemmas.Bool.{false≢true, and_from, and_parts, or_parts}
 use Rattle.std.proofs.lemmas.Bool.Decides.{nat_tests}
 use Rattle.std.proofs.lemmas.List.{append_assoc, append-nil, length-append}
 use Rattle.std.proofs.lemmas.List.Folds.{list_any-append}
@@ -18,7 +18,7 @@ use Rattle.sb_text.specs.TokenLaws.{placed, written_line}
 use Rattle.sb_text.specs.Utf8Laws.{NotUtf8PlaceTells}
 use Rattle.sb_text.specs.declared.refusals.TokenFault.{TokenFault}
 use Rattle.sb_text.specs.declared.refusals.LineFault.{LineFault}
-use Rattle.sb_text.specs.declared.refusals.WordFault.TheVariants.{Unknown, Extra, Broken}
+use Rattle.sb_text.specs.declared.refusals.WordFault.TheVariants.{Extra, Broken}
 use Rattle.sb_ruletext.specs.Lines.{heading, line_of}
 use Rattle.sb_ruletext.specs.PolicyTexts.{add_line, grammar, reading}
 use Rattle.sb_ruletext.specs.Printing.{rule_tokens, heading_tokens, policy_lines, is_read_only, has_read_only, version_tokens, printed_lines, printed, relined_rules, relined_from, relined}
@@ -31,11 +31,12 @@ use Rattle.sb_rule.specs.Actions.{action_word}
 use Rattle.sb_ruletext.specs.Words.{action_of}
 use Rattle.sb_ruletext.proofs.Prefixes.{read_by_lines}
 use Rattle.sb_ruletext.specs.declared.faults.PolicyFaultKind.{PolicyFaultKind}
-use Rattle.sb_ruletext.specs.declared.faults.PolicyFaultKind.TheVariants.{BadVersion, UnknownWord, TooMany, SameName}
+use Rattle.sb_ruletext.specs.declared.faults.WordDue.TheVariants as word_due
+use Rattle.sb_ruletext.specs.declared.faults.PolicyFaultKind.TheVariants.{BadVersion, OtherWord, UnknownWord, TooMany, SameName}
 use Rattle.sb_ruletext.specs.declared.faults.PolicyLimit.TheVariants.{Policies}
 use Rattle.sb_text.specs.PlainLines.{is_plain_line, numbered, PlainLinesAreUtf8, PlainLinesAreRead, PlainTokensAreRead}
-use Rattle.sb_ruletext.proofs.PrintedRules.{policy_of, rule_line_read}
-use Rattle.sb_ruletext.proofs.Conjunctions.{both, and_true}
+use Rattle.sb_ruletext.proofs.Added.{policy_of}
+use Rattle.sb_ruletext.proofs.PrintedRules.{rule_line_read}
 use Rattle.sb_ruletext.proofs.PrintedTokens.{sound_conds, rule_plain, heading_plain, printed_plain}
 use Rattle.sb_ruletext.proofs.PrintedWords.{not_true, action_back, first_action_back}
 
@@ -77,12 +78,12 @@ rules_read laws version done name before n [] lines h v a few =
     ∙ ap (λ n. read_lines grammar version (done ++ policy_of name (before ++ []) ∷ []) (numbered n lines)) {x = n} {y = n + 0} (omega arith)
 rules_read laws version done name before n (rule ∷ rules) lines h v a few =
     let made = record rule { line = n } in
-    let formed = (both _ _ h).0 in
+    let formed = (and_parts _ _ h).0 in
     line_read laws version (done ++ policy_of name before ∷ []) (done ++ policy_of name (before ++ made ∷ []) ∷ []) n (rule_tokens rule) (map rule_tokens rules ++ lines)
-    (rule_plain laws.texts rule formed (both _ _ v).0)
-    (rule_line_read laws.texts version done name before n rule a.0 (both _ _ (both _ _ formed).0).1 (both _ _ (both _ _ formed).0).0
-    (sound_conds rule formed (both _ _ v).0) (omega arith))
-    ∙ rules_read laws version done name (before ++ made ∷ []) (n + 1) rules lines (both _ _ h).1 (both _ _ v).1 a.1 (omega (arith, length-append before (made ∷ [])))
+    (rule_plain laws.texts rule formed (and_parts _ _ v).0)
+    (rule_line_read laws.texts version done name before n rule a.0 (and_parts _ _ (and_parts _ _ formed).0).1 (and_parts _ _ (and_parts _ _ formed).0).0
+    (sound_conds rule formed (and_parts _ _ v).0) (omega arith))
+    ∙ rules_read laws version done name (before ++ made ∷ []) (n + 1) rules lines (and_parts _ _ h).1 (and_parts _ _ v).1 a.1 (omega (arith, length-append before (made ∷ [])))
     ∙ ap (λ all. read_lines grammar version (done ++ policy_of name all ∷ []) (numbered (n + 1 + length rules) lines)) (append_assoc before (made ∷ []) (relined_rules (n + 1) rules))
     ∙ ap (λ m. read_lines grammar version (done ++ policy_of name (before ++ made ∷ relined_rules (n + 1) rules) ∷ []) (numbered m lines))
     {x = n + 1 + length rules} {y = n + suc (length rules)} (omega arith)
@@ -105,7 +106,7 @@ unfolding line_of heading
 heading_read version done n policy short new few = by_tests (is_short_name policy.name) (list_any (is_named policy.name) done) (nat_lt (length done) most_policies) short new few
   where
     by_tests : (s t u : Bool) → s ≡ true → t ≡ false → u ≡ true
-        → headed done (placed (heading_tokens policy)) (placed (Word policy.name ∷ [])) u (if s then (if t then Err SameName else Ok policy.name) else Err (UnknownWord Unknown))
+        → headed done (placed (heading_tokens policy)) (placed (Word policy.name ∷ [])) u (if s then (if t then Err SameName else Ok policy.name) else Err (OtherWord word_due.Name))
         ≡ Ok (done ++ policy_of policy.name [] ∷ [])
     by_tests s t u e f g = rw (e, f, g) refl
 
@@ -118,8 +119,8 @@ policy_read : Laws → (version : ℕ) (done : List Policy) (n : ℕ) (policy : 
     ≡ read_lines grammar version (done ++ record policy { rules = relined_rules (n + 1) policy.rules } ∷ []) (numbered (n + 1 + length policy.rules) lines)
 policy_read laws version done n policy lines h v a new few =
     line_read laws version done (done ++ policy_of policy.name [] ∷ []) n (heading_tokens policy) (map rule_tokens policy.rules ++ lines)
-    (heading_plain policy (both _ _ v).0) (heading_read version done n policy (both _ _ v).0 new few)
-    ∙ rules_read laws version done policy.name [] (n + 1) policy.rules lines (both _ _ h).1 (both _ _ v).1 a (most policy.rules (both _ _ h).0)
+    (heading_plain policy (and_parts _ _ v).0) (heading_read version done n policy (and_parts _ _ v).0 new few)
+    ∙ rules_read laws version done policy.name [] (n + 1) policy.rules lines (and_parts _ _ h).1 (and_parts _ _ v).1 a (most policy.rules (and_parts _ _ h).0)
   where
     most : (rules : List Rule) → nat_le (length rules) 256 ≡ true → 0 + length rules ≤ 256
     most rules k = grind (arith, nat_tests)
@@ -138,10 +139,6 @@ truths false false f g = refl
 turned : (a b : List ℕ) → pointwise nat_eq a b ≡ pointwise nat_eq b a
 turned a b = truths _ _ (λ e. (bytes_decides b a).1 (sym ((bytes_decides a b).0 e))) (λ e. (bytes_decides a b).1 (sym ((bytes_decides b a).0 e)))
 
-or_false : (a b : Bool) → (a || b) ≡ false → (a ≡ false) × (b ≡ false)
-or_false false b h = (refl, h)
-or_false true b h = absurd (false≢true (sym h))
-
 neither : (a b : Bool) → a ≡ false → b ≡ false → not (a || (b || false)) ≡ true
 neither a b h k = rw (h, k) refl
 
@@ -149,11 +146,11 @@ new_more : (done : List Policy) (name : List ℕ) (rules : List Rule) (policies 
     → list_any (is_named name) policies ≡ false → are_new (done ++ policy_of name rules ∷ []) policies ≡ true
 new_more done name rules [] h k = refl
 new_more done name rules (policy ∷ policies) h k =
-    let parts = or_false (is_named name policy) (list_any (is_named name) policies) k in
-    and_true _ _
+    let parts = or_parts (is_named name policy) (list_any (is_named name) policies) k in
+    and_from _ _
     (ap not (list_any-append (is_named policy.name) done (policy_of name rules ∷ []))
-    ∙ neither (list_any (is_named policy.name) done) (pointwise nat_eq name policy.name) (not_true _ (both _ _ h).0) (turned name policy.name ∙ parts.0))
-    (new_more done name rules policies (both _ _ h).1 parts.1)
+    ∙ neither (list_any (is_named policy.name) done) (pointwise nat_eq name policy.name) (not_true _ (and_parts _ _ h).0) (turned name policy.name ∙ parts.0))
+    (new_more done name rules policies (and_parts _ _ h).1 parts.1)
 
 new_to_none : (policies : List Policy) → are_new [] policies ≡ true
 new_to_none [] = refl
@@ -169,10 +166,10 @@ unfolding read_lines
 policies_read laws version done n [] h v a new apart few = ap Ok (sym (append-nil done))
 policies_read laws version done n (policy ∷ policies) h v a new apart few =
     let made = record policy { rules = relined_rules (n + 1) policy.rules } in
-    policy_read laws version done n policy (flat_map policy_lines policies) (both _ _ h).0 (both _ _ v).0 a.0 (not_true _ (both _ _ new).0) (room (length done) (omega arith))
-    ∙ policies_read laws version (done ++ made ∷ []) (n + 1 + length policy.rules) policies (both _ _ h).1 (both _ _ v).1 a.1
-    (new_more done policy.name (relined_rules (n + 1) policy.rules) policies (both _ _ new).1 (not_true _ (both _ _ apart).0))
-    (both _ _ apart).1 (omega (arith, length-append done (made ∷ [])))
+    policy_read laws version done n policy (flat_map policy_lines policies) (and_parts _ _ h).0 (and_parts _ _ v).0 a.0 (not_true _ (and_parts _ _ new).0) (room (length done) (omega arith))
+    ∙ policies_read laws version (done ++ made ∷ []) (n + 1 + length policy.rules) policies (and_parts _ _ h).1 (and_parts _ _ v).1 a.1
+    (new_more done policy.name (relined_rules (n + 1) policy.rules) policies (and_parts _ _ new).1 (not_true _ (and_parts _ _ apart).0))
+    (and_parts _ _ apart).1 (omega (arith, length-append done (made ∷ [])))
     ∙ ap Ok (append_assoc done (made ∷ []) (relined_from (n + 1 + length policy.rules) policies))
   where
     room : (k : ℕ) → k < 8 → nat_lt k most_policies ≡ true
@@ -190,11 +187,11 @@ all_actions_of_all (policy ∷ policies) = (all_actions policy.rules, all_action
 
 first_actions : (rules : List Rule) → list_any (λ rule. is_read_only rule.action) rules ≡ false → AreActions 1 rules
 first_actions [] h = tt
-first_actions (rule ∷ rules) h = let parts = or_false _ _ h in (first_action_back rule.action parts.0, first_actions rules parts.1)
+first_actions (rule ∷ rules) h = let parts = or_parts _ _ h in (first_action_back rule.action parts.0, first_actions rules parts.1)
 
 first_actions_of_all : (policies : List Policy) → list_any has_read_only policies ≡ false → AreActionsOfAll 1 policies
 first_actions_of_all [] h = tt
-first_actions_of_all (policy ∷ policies) h = let parts = or_false _ _ h in (first_actions policy.rules parts.0, first_actions_of_all policies parts.1)
+first_actions_of_all (policy ∷ policies) h = let parts = or_parts _ _ h in (first_actions policy.rules parts.0, first_actions_of_all policies parts.1)
 
 -- the whole text
 
@@ -216,13 +213,13 @@ below_read laws policies h v apart few false e = policies_read laws 1 [] 2 polic
 
 pub printed_read : Laws → PrintedPoliciesAreRead
 printed_read laws policies h v =
-    let made = (both _ _ h).1 in
+    let made = (and_parts _ _ h).1 in
     let plain = printed_plain laws.texts policies made v in
     read_by_lines (printed policies) (laws.utf8.0 (printed policies) (laws.plain (printed_lines policies) plain))
     ∙ ap (read_by grammar) (laws.lines (printed_lines policies) plain)
     ∙ ap (λ tokens. on_line by_tokens (record { number = 1; text = written_line (version_tokens policies) }) (version_at BadVersion (codes "sandbox-policy") 2 tokens)
-    >>= λ version. read_lines grammar version [] (numbered 2 (flat_map policy_lines policies))) (laws.tokens (version_tokens policies) (both _ _ plain).0)
-    ∙ below_read laws policies made v (both _ _ (both _ _ h).0).1 (most policies (both _ _ (both _ _ h).0).0) (list_any has_read_only policies) refl
+    >>= λ version. read_lines grammar version [] (numbered 2 (flat_map policy_lines policies))) (laws.tokens (version_tokens policies) (and_parts _ _ plain).0)
+    ∙ below_read laws policies made v (and_parts _ _ (and_parts _ _ h).0).1 (most policies (and_parts _ _ (and_parts _ _ h).0).0) (list_any has_read_only policies) refl
   where
     most : (policies : List Policy) → nat_le (length policies) 8 ≡ true → length policies ≤ 8
     most policies k = grind (arith, nat_tests)

@@ -4,7 +4,7 @@ use Rattle.std.specs.Cmp.Lexicographic.{bytes_decides}
 use Rattle.std.specs.Fmt.{digits}
 use Rattle.std.specs.List.{list_all}
 use Rattle.std.specs.Prelude.{option_map}
-use Rattle.std.proofs.lemmas.Bool.{false≢true}
+use Rattle.std.proofs.lemmas.Bool.{false≢true, and_from, and_parts}
 use Rattle.std.proofs.lemmas.Bool.Decides.{nat_tests}
 use Rattle.std.proofs.lemmas.List.Folds.{list_all-append}
 use Rattle.sb_call.specs.Tags.{shape_of}
@@ -22,11 +22,11 @@ use Rattle.sb_rule.specs.Actions.{action_word}
 use Rattle.sb_ruletext.specs.Words.{place_of, action_of, parameter_of}
 use Rattle.sb_text.specs.Steps.{◌>>=◌, or_fault}
 use Rattle.sb_ruletext.specs.declared.faults.PolicyFaultKind.{PolicyFaultKind}
-use Rattle.sb_ruletext.specs.declared.faults.PolicyFaultKind.TheVariants.{BadNumber}
+use Rattle.sb_ruletext.specs.declared.faults.PolicyFaultKind.TheVariants.{NoRange}
 use Rattle.sb_rule.specs.declared.conditions.Test.{Test}
 use Rattle.sb_rule.specs.declared.conditions.Test.TheVariants.{Range}
 use Rattle.sb_text.specs.PlainLines.{is_plain_byte}
-use Rattle.sb_ruletext.proofs.Conjunctions.{both, and_true, all_more}
+use Rattle.sb_ruletext.proofs.Conjunctions.{all_more}
 
 pub is_itself : (word : List ℕ) → is_word word word ≡ true
 is_itself word = (bytes_decides word word).1 refl
@@ -74,16 +74,16 @@ not_true true h = sym h
 pub apart_at : (word : List ℕ) (words : List (List ℕ)) (i : ℕ) → list_all (λ other. not (is_word word other)) words ≡ true → i < length words
     → is_word word (slice_index_or words i []) ≡ false
 apart_at word [] i h k = absurd (omega arith)
-apart_at word (other ∷ words) zero h k = not_true _ (both _ _ h).0
-apart_at word (other ∷ words) (suc i) h k = apart_at word words i (both _ _ h).1 (omega arith)
+apart_at word (other ∷ words) zero h k = not_true _ (and_parts _ _ h).0
+apart_at word (other ∷ words) (suc i) h k = apart_at word words i (and_parts _ _ h).1 (omega arith)
 
 place_back : (words : List (List ℕ)) (i : ℕ) → are_apart words ≡ true → i < length words → place_of words (slice_index_or words i []) ≡ Some i
 place_back [] i h k = absurd (omega arith)
 place_back (word ∷ words) zero h k = let e = is_itself word in rw (e) refl
 place_back (word ∷ words) (suc i) h k =
-    let e = apart_at word words i (both _ _ h).0 (omega arith) in
+    let e = apart_at word words i (and_parts _ _ h).0 (omega arith) in
     ap (λ t. cond t (Some 0) (option_map (λ n. n + 1) (place_of words (slice_index_or words i [])))) e
-    ∙ ap (option_map (λ n. n + 1)) (place_back words i (both _ _ h).1 (omega arith))
+    ∙ ap (option_map (λ n. n + 1)) (place_back words i (and_parts _ _ h).1 (omega arith))
     ∙ ap Some {x = i + 1} {y = suc i} (omega arith)
 
 words_apart : (tag : CallTag) → are_apart (parameter_words tag) ≡ true
@@ -128,7 +128,7 @@ pub number_back : HexadecimalsAreRead → (n : ℕ) → n < 2 ^ 64 → number_of
 number_back law n h = law n h
 
 hexadecimal : HexadecimalsAreRead → (n : ℕ) → n < 2 ^ 64 → list_all is_hexadecimal_digit (digits 16 false n) ≡ true
-hexadecimal law n h = (both _ _ (made _ _ n (law n h))).1
+hexadecimal law n h = (and_parts _ _ (made _ _ n (law n h))).1
 
 digit_plain : (b : ℕ) → is_hexadecimal_digit b ≡ true → is_plain_byte b ≡ true
 digit_plain b h = grind (arith, nat_tests)
@@ -149,21 +149,21 @@ no_dots x c bs h = rw (h) refl
 
 dots_back : (a b : List ℕ) → list_all (λ c. not (c == 46)) a ≡ true → around_dots (a ++ 46 ∷ 46 ∷ b) ≡ Some (a, b)
 dots_back [] b h = refl
-dots_back (x ∷ []) b h = ap (λ after. around_from x after (Some ([], b))) (no_dots x 46 (46 ∷ b) (not_true _ (both _ _ h).0))
+dots_back (x ∷ []) b h = ap (λ after. around_from x after (Some ([], b))) (no_dots x 46 (46 ∷ b) (not_true _ (and_parts _ _ h).0))
 dots_back (x ∷ y ∷ a) b h =
-    ap (λ after. around_from x after (around_dots (y ∷ (a ++ 46 ∷ 46 ∷ b)))) (no_dots x y (a ++ 46 ∷ 46 ∷ b) (not_true _ (both _ _ h).0))
-    ∙ ap (around_from x None) (dots_back (y ∷ a) b (both _ _ h).1)
+    ap (λ after. around_from x after (around_dots (y ∷ (a ++ 46 ∷ 46 ∷ b)))) (no_dots x y (a ++ 46 ∷ 46 ∷ b) (not_true _ (and_parts _ _ h).0))
+    ∙ ap (around_from x None) (dots_back (y ∷ a) b (and_parts _ _ h).1)
 
 -- the range of two ends
 abbrev ranged : Option (List ℕ × List ℕ) → Result Test PolicyFaultKind
 ranged ends = do
-  ends ← or_fault BadNumber ends
-  lo ← or_fault BadNumber (number_of ends.0)
-  hi ← or_fault BadNumber (number_of ends.1)
+  ends ← or_fault NoRange ends
+  lo ← or_fault NoRange (number_of ends.0)
+  hi ← or_fault NoRange (number_of ends.1)
   range lo hi
 
 ranged_numbers : (low high : Option ℕ) (lo hi : ℕ) → low ≡ Some lo → high ≡ Some hi → nat_le lo hi ≡ true
-    → (or_fault BadNumber low >>= λ lo. or_fault BadNumber high >>= λ hi. range lo hi) ≡ Ok (Range lo hi)
+    → (or_fault NoRange low >>= λ lo. or_fault NoRange high >>= λ hi. range lo hi) ≡ Ok (Range lo hi)
 ranged_numbers low high lo hi e f h = rw (e, f) rw (h) refl
 
 pub range_back : HexadecimalsAreRead → (lo hi : ℕ) → lo < 2 ^ 64 → hi < 2 ^ 64 → nat_le lo hi ≡ true → range_of (range_word lo hi) ≡ Ok (Range lo hi)
@@ -172,4 +172,4 @@ range_back law lo hi l h k =
     ∙ ranged_numbers (number_of (number_word lo)) (number_of (number_word hi)) lo hi (number_back law lo l) (number_back law hi h) k
 
 pub range_plain : HexadecimalsAreRead → (lo hi : ℕ) → lo < 2 ^ 64 → hi < 2 ^ 64 → list_all is_plain_byte (range_word lo hi) ≡ true
-range_plain law lo hi l h = list_all-append is_plain_byte (number_word lo) (46 ∷ 46 ∷ number_word hi) ∙ and_true _ _ (number_plain law lo l) (number_plain law hi h)
+range_plain law lo hi l h = list_all-append is_plain_byte (number_word lo) (46 ∷ 46 ∷ number_word hi) ∙ and_from _ _ (number_plain law lo l) (number_plain law hi h)

@@ -1,5 +1,6 @@
 -- What a text is read as is well made.
 use Rattle.std.proofs.Common.{◌≡◌, refl, sym, ap, ◌∙◌, subst, arith, ℕ, zero, suc, ◌+◌, ◌<◌, ◌≤◌, List, [], ◌∷◌, ◌++◌, Bool, true, false, nat_le, nat_lt, cond, length, option_map, None, Some, Option, Result, Ok, Err, codes}
+use Rattle.std.proofs.lemmas.Bool.{and_from, and_parts}
 use Rattle.std.proofs.lemmas.Bool.Decides.{nat_tests}
 use Rattle.std.proofs.lemmas.Str.{IsUtf8-from_is_utf8}
 use Rattle.std.specs.Bool.{beq}
@@ -37,20 +38,20 @@ use Rattle.sb_text.specs.Utf8.{Place, not_utf8_place}
 use Rattle.sb_text.specs.declared.refusals.LineFault.{LineFault}
 use Rattle.sb_call.specs.Parameters.{parameter_words}
 use Rattle.sb_ruletext.specs.Conditions.{number_at, numbers_at, around_dots, range, range_of, range_at, string, cells, cells_at, string_at, pattern_at, is_at, in_at, has_at, like_at, test_at, parameter_at, is_number_at, plain_condition_at, condition_at, conditions_at, conditions_of}
-use Rattle.sb_ruletext.specs.Drafts.{is_headed}
 use Rattle.sb_ruletext.specs.Grants.{grant_of, rules_of}
 use Rattle.sb_ruletext.specs.Laws.{ReadPoliciesAreWellMade}
-use Rattle.sb_ruletext.specs.Lines.{new_name, name_at, with_policy, heading, call_at, first_word_fault, end_at_when, when_of, rule, grant_at, grant, with_last_rules, with_grant, with_rule, line_of}
+use Rattle.sb_ruletext.specs.Lines.{is_headed, new_name, name_at, with_policy, heading, call_at, first_word_fault, end_at_when, when_of, rule, grant_at, grant, with_last_rules, with_grant, with_rule, line_of}
 use Rattle.sb_ruletext.specs.PolicyTexts.{add_line, grammar, policy_version}
 use Rattle.sb_ruletext.specs.Steps.{word_or, quoted_or, line_end, joined_at}
 use Rattle.sb_ruletext.specs.Words.{action_of, parameter_of, place_of}
 use Rattle.sb_ruletext.specs.declared.faults.PolicyFaultKind.{PolicyFaultKind}
-use Rattle.sb_ruletext.specs.declared.faults.PolicyFaultKind.TheVariants.{NotUtf8, UnknownWord, UnknownCall, UnknownParam, WrongKind, BadNumber, EmptyRange, BadPattern, TooMany, SameName, NoHeading, NotReadOnly}
+use Rattle.sb_ruletext.specs.declared.faults.FitDue.TheVariants as fit_due
+use Rattle.sb_ruletext.specs.declared.faults.WordDue.TheVariants as word_due
+use Rattle.sb_ruletext.specs.declared.faults.PolicyFaultKind.TheVariants.{NotUtf8, UnknownWord, OtherWord, UnknownCall, UnknownParam, WrongKind, BadNumber, NoRange, EmptyRange, BadPattern, TooMany, SameName, NoHeading, NotReadOnly}
 use Rattle.sb_ruletext.specs.declared.faults.PolicyLimit.{PolicyLimit}
 use Rattle.sb_ruletext.specs.declared.faults.PolicyLimit.TheVariants as limit
 use Rattle.sb_ruletext.specs.declared.grants.Grant.{Grant}
-use Rattle.sb_ruletext.proofs.Added.{last_rules, chosen, added_nowhere, well_made_longer, well_made_more}
-use Rattle.sb_ruletext.proofs.Conjunctions.{both, and_true}
+use Rattle.sb_ruletext.proofs.Added.{last_rules, chosen, changed, added_nowhere, well_made_longer, well_made_more}
 use Rattle.sb_ruletext.proofs.Patterns.{short_text, read_like}
 use Rattle.sb_ruletext.proofs.PrintedWords.{as_many}
 use Rattle.sb_text.specs.Strings.{QuotedStringsAreText}
@@ -94,11 +95,11 @@ AreText tokens = list_all is_quoted_text (lexemes tokens) ≡ true
 
 later_text : (tokens : Lexemes) → AreText tokens → AreText (later tokens)
 later_text (End place) t = refl
-later_text (Next place token tokens) t = (both (is_quoted_text token) (list_all is_quoted_text (lexemes tokens)) t).1
+later_text (Next place token tokens) t = (and_parts (is_quoted_text token) (list_all is_quoted_text (lexemes tokens)) t).1
 
 word_rest : (quoted : PolicyFaultKind) (tokens : Lexemes) (x : List ℕ × Lexemes) → word_or quoted tokens ≡ Ok x → AreText tokens → AreText x.1
 word_rest quoted (Next place (Word w) tokens) x h t =
-    subst (λ (y : List ℕ × Lexemes). AreText y.1) {x = (w, tokens)} (ok_same (w, tokens) x h) (both (is_quoted_text (Word w)) (list_all is_quoted_text (lexemes tokens)) t).1
+    subst (λ (y : List ℕ × Lexemes). AreText y.1) {x = (w, tokens)} (ok_same (w, tokens) x h) (and_parts (is_quoted_text (Word w)) (list_all is_quoted_text (lexemes tokens)) t).1
 word_rest quoted (Next place (Quoted q) tokens) x h t = absurd cc
 word_rest quoted (Next place Bad tokens) x h t = absurd cc
 word_rest quoted (End place) x h t = absurd cc
@@ -110,7 +111,7 @@ record QuotedFine (x : List ℕ × Lexemes) : Type 0 where
 
 quoted_fine : (word : PolicyFaultKind) (tokens : Lexemes) (x : List ℕ × Lexemes) → quoted_or word tokens ≡ Ok x → AreText tokens → QuotedFine x
 quoted_fine word (Next place (Quoted q) tokens) x h t =
-    let parts = both (is_quoted_text (Quoted q)) (list_all is_quoted_text (lexemes tokens)) t in
+    let parts = and_parts (is_quoted_text (Quoted q)) (list_all is_quoted_text (lexemes tokens)) t in
     subst QuotedFine {x = (q, tokens)} (ok_same (q, tokens) x h) (record { text = parts.0; rest = parts.1 })
 quoted_fine word (Next place (Word w) tokens) x h t = absurd cc
 quoted_fine word (Next place Bad tokens) x h t = absurd cc
@@ -125,7 +126,7 @@ pub record Texts : Type 0 where
 -- the units of what is between quotes
 units_fine : QuotedStringsAreText → (q : List ℕ) → is_quoted_text (Quoted q) ≡ true → (list_all is_text_unit (string_of q) ≡ true) × (is_paired (string_of q) ≡ true)
 units_fine law q h =
-    let parts = both (is_utf8 q) (list_all is_quoted_byte q) h in
+    let parts = and_parts (is_utf8 q) (list_all is_quoted_byte q) h in
     law q (IsUtf8-from_is_utf8 q parts.0) parts.1
 
 -- items that are joined by a word
@@ -149,10 +150,10 @@ joined_next p most first rest true others x i t f h =
     let j = f o.0 o.1 in
     let few = j.few in
     subst (IsJoined p (suc most)) {x = (first ∷ o.0.0, o.0.1)} (ok_same (first ∷ o.0.0, o.0.1) x o.2)
-    (record { some = omega arith; few = omega (arith, few); each = and_true _ _ i j.each; rest = j.rest })
+    (record { some = omega arith; few = omega (arith, few); each = and_from _ _ i j.each; rest = j.rest })
 joined_next p most first rest false others x i t f h =
     subst (IsJoined p (suc most)) {x = (first ∷ [], rest)} (ok_same (first ∷ [], rest) x h)
-    (record { some = omega arith; few = omega arith; each = and_true _ _ i refl; rest = t })
+    (record { some = omega arith; few = omega arith; each = and_from _ _ i refl; rest = t })
 
 joined_fine : {A : Type 0} (limit : PolicyLimit) (p : A → Bool) (item_at : Lexemes → Read A PolicyFaultKind)
     → ((tokens : Lexemes) (x : A × Lexemes) → item_at tokens ≡ Ok x → AreText tokens → IsItem p x)
@@ -179,9 +180,9 @@ Tests is_number read = (x : Test × Lexemes) → read ≡ Ok x → IsTest is_num
 
 number_fine : (tokens : Lexemes) (x : ℕ × Lexemes) → number_at tokens ≡ Ok x → AreText tokens → IsItem (λ n. true) x
 number_fine tokens x h t =
-    let w = made (word_or WrongKind tokens) (λ word. or_fails tokens BadNumber (number_of word.0) >>= λ n. Ok (n, word.1)) x h in
+    let w = made (word_or (WrongKind fit_due.Number) tokens) (λ word. or_fails tokens BadNumber (number_of word.0) >>= λ n. Ok (n, word.1)) x h in
     let n = made (or_fails tokens BadNumber (number_of w.0.0)) (λ n. Ok (n, w.0.1)) x w.2 in
-    subst (IsItem (λ n. true)) {x = (n.0, w.0.1)} (ok_same (n.0, w.0.1) x n.2) (record { item = refl; rest = word_rest WrongKind tokens w.0 w.1 t })
+    subst (IsItem (λ n. true)) {x = (n.0, w.0.1)} (ok_same (n.0, w.0.1) x n.2) (record { item = refl; rest = word_rest (WrongKind fit_due.Number) tokens w.0 w.1 t })
 
 list_fine : (numbers : List ℕ) → 0 < length numbers → length numbers ≤ 16 → is_sensible (OneOf numbers) ≡ true
 list_fine numbers h k = grind (arith, nat_tests)
@@ -206,20 +207,20 @@ record IsRange (test : Test) : Type 0 where
 
 range_fine : (word : List ℕ) (test : Test) → range_of word ≡ Ok test → IsRange test
 range_fine word test h =
-    let ends = made (or_fault BadNumber (around_dots word))
-    (λ ends. or_fault BadNumber (number_of ends.0) >>= λ lo. or_fault BadNumber (number_of ends.1) >>= λ hi. range lo hi) test h in
-    let lo = made (or_fault BadNumber (number_of ends.0.0)) (λ lo. or_fault BadNumber (number_of ends.0.1) >>= λ hi. range lo hi) test ends.2 in
-    let hi = made (or_fault BadNumber (number_of ends.0.1)) (λ hi. range lo.0 hi) test lo.2 in
+    let ends = made (or_fault NoRange (around_dots word))
+    (λ ends. or_fault NoRange (number_of ends.0) >>= λ lo. or_fault NoRange (number_of ends.1) >>= λ hi. range lo hi) test h in
+    let lo = made (or_fault NoRange (number_of ends.0.0)) (λ lo. or_fault NoRange (number_of ends.0.1) >>= λ hi. range lo hi) test ends.2 in
+    let hi = made (or_fault NoRange (number_of ends.0.1)) (λ hi. range lo.0 hi) test lo.2 in
     let t = passed (nat_le lo.0 hi.0) (Range lo.0 hi.0) test EmptyRange hi.2 in
     subst IsRange {x = Range lo.0 hi.0} t.1 (record { sensible = t.0; kind = refl })
 
 range_at_fine : (tokens : Lexemes) → AreText tokens → Tests true (range_at tokens)
 range_at_fine tokens t x h =
-    let w = made (word_or WrongKind tokens) (λ word. at_token tokens (range_of word.0) >>= λ test. Ok (test, word.1)) x h in
+    let w = made (word_or (WrongKind fit_due.Number) tokens) (λ word. at_token tokens (range_of word.0) >>= λ test. Ok (test, word.1)) x h in
     let r = made (at_token tokens (range_of w.0.0)) (λ test. Ok (test, w.0.1)) x w.2 in
     let fine = range_fine w.0.0 r.0 (at_same tokens (range_of w.0.0) r.0 r.1) in
     subst (IsTest true) {x = (r.0, w.0.1)} (ok_same (r.0, w.0.1) x r.2)
-    (record { sensible = fine.sensible; kind = fine.kind; rest = word_rest WrongKind tokens w.0 w.1 t })
+    (record { sensible = fine.sensible; kind = fine.kind; rest = word_rest (WrongKind fit_due.Number) tokens w.0 w.1 t })
 
 string_fine : Texts → (q text : List ℕ) → is_quoted_text (Quoted q) ≡ true → string q ≡ Ok text → is_policy_text text ≡ true
 string_fine laws q text t h =
@@ -249,16 +250,16 @@ cells_fine laws word tokens x h t =
 
 string_at_fine : Texts → (tokens : Lexemes) → AreText tokens → Tests false (string_at tokens)
 string_at_fine laws tokens t x h =
-    let q = made (quoted_or WrongKind tokens) (λ quoted. at_token tokens (string quoted.0) >>= λ text. Ok (Equal text, quoted.1)) x h in
+    let q = made (quoted_or (WrongKind fit_due.Text) tokens) (λ quoted. at_token tokens (string quoted.0) >>= λ text. Ok (Equal text, quoted.1)) x h in
     let s = made (at_token tokens (string q.0.0)) (λ text. Ok (Equal text, q.0.1)) x q.2 in
-    let fine = quoted_fine WrongKind tokens q.0 q.1 t in
+    let fine = quoted_fine (WrongKind fit_due.Text) tokens q.0 q.1 t in
     subst (IsTest false) {x = (Equal s.0, q.0.1)} (ok_same (Equal s.0, q.0.1) x s.2)
     (record { sensible = string_fine laws q.0.0 s.0 fine.text (at_same tokens (string q.0.0) s.0 s.1); kind = refl; rest = fine.rest })
 
 pattern_at_fine : Texts → (tokens : Lexemes) → AreText tokens → Tests false (pattern_at tokens)
 pattern_at_fine laws tokens t x h =
-    let p = made (cells_at WrongKind tokens) (λ read. Ok (Like read.0, read.1)) x h in
-    let fine = cells_fine laws WrongKind tokens p.0 p.1 t in
+    let p = made (cells_at (WrongKind fit_due.Text) tokens) (λ read. Ok (Like read.0, read.1)) x h in
+    let fine = cells_fine laws (WrongKind fit_due.Text) tokens p.0 p.1 t in
     subst (IsTest false) {x = (Like p.0.0, p.0.1)} (ok_same (Like p.0.0, p.0.1) x p.2)
     (record { sensible = fine.like; kind = refl; rest = fine.rest })
 
@@ -278,7 +279,7 @@ like_fine : Texts → (is_number : Bool) (due tokens : Lexemes) → AreText toke
 like_fine laws true due tokens t x h = absurd cc
 like_fine laws false due tokens t x h = pattern_at_fine laws tokens t x h
 
-no_test : (is_number : Bool) (tokens : Lexemes) → Tests is_number (fails tokens (UnknownWord wrong.Unknown))
+no_test : (is_number : Bool) (tokens : Lexemes) → Tests is_number (fails tokens (OtherWord word_due.Test))
 no_test is_number tokens x h = absurd cc
 
 test_fine : Texts → (is_number : Bool) (tokens : Lexemes) → AreText tokens → Tests is_number (test_at is_number tokens)
@@ -287,12 +288,12 @@ test_fine laws is_number tokens t x h =
     let w = made (word_or (UnknownWord wrong.Quoted) tokens) (λ word. cond (is_word (codes "is") word.0) (is_at is_number word.1)
     (cond (is_word (codes "in") word.0) (in_at is_number tokens word.1)
     (cond (is_word (codes "has") word.0) (has_at is_number tokens word.1)
-    (cond (is_word (codes "like") word.0) (like_at is_number tokens word.1) (fails tokens (UnknownWord wrong.Unknown)))))) x h in
+    (cond (is_word (codes "like") word.0) (like_at is_number tokens word.1) (fails tokens (OtherWord word_due.Test)))))) x h in
     let rest = word_rest (UnknownWord wrong.Quoted) tokens w.0 w.1 t in
     branches (Tests is_number) (is_word (codes "is") w.0.0) (is_at is_number w.0.1) _ (is_fine laws is_number w.0.1 rest)
     (branches (Tests is_number) (is_word (codes "in") w.0.0) (in_at is_number tokens w.0.1) _ (in_fine is_number tokens w.0.1 rest)
     (branches (Tests is_number) (is_word (codes "has") w.0.0) (has_at is_number tokens w.0.1) _ (has_fine is_number tokens w.0.1 rest)
-    (branches (Tests is_number) (is_word (codes "like") w.0.0) (like_at is_number tokens w.0.1) (fails tokens (UnknownWord wrong.Unknown))
+    (branches (Tests is_number) (is_word (codes "like") w.0.0) (like_at is_number tokens w.0.1) (fails tokens (OtherWord word_due.Test))
     (like_fine laws is_number tokens w.0.1 rest) (no_test is_number tokens)))) x w.2
 
 -- conditions
@@ -330,10 +331,10 @@ parameter_within tag word p h =
 
 parameter_fine : (tag : CallTag) (tokens : Lexemes) (x : ℕ × Lexemes) → parameter_at tag tokens ≡ Ok x → AreText tokens → IsParameter tag x
 parameter_fine tag tokens x h t =
-    let w = made (word_or UnknownParam tokens) (λ word. or_fails tokens UnknownParam (parameter_of tag word.0) >>= λ param. Ok (param, word.1)) x h in
-    let p = made (or_fails tokens UnknownParam (parameter_of tag w.0.0)) (λ param. Ok (param, w.0.1)) x w.2 in
+    let w = made (word_or (UnknownParam tag) tokens) (λ word. or_fails tokens (UnknownParam tag) (parameter_of tag word.0) >>= λ param. Ok (param, word.1)) x h in
+    let p = made (or_fails tokens (UnknownParam tag) (parameter_of tag w.0.0)) (λ param. Ok (param, w.0.1)) x w.2 in
     subst (IsParameter tag) {x = (p.0, w.0.1)} (ok_same (p.0, w.0.1) x p.2)
-    (record { within = parameter_within tag w.0.0 p.0 (found tokens UnknownParam (parameter_of tag w.0.0) p.0 p.1); rest = word_rest UnknownParam tokens w.0 w.1 t })
+    (record { within = parameter_within tag w.0.0 p.0 (found tokens (UnknownParam tag) (parameter_of tag w.0.0) p.0 p.1); rest = word_rest (UnknownParam tag) tokens w.0 w.1 t })
 
 same_kind : (a b : Bool) → a ≡ b → beq a b ≡ true
 same_kind true true h = refl
@@ -352,7 +353,7 @@ plain_fine laws negated tag tokens x h t =
     subst (IsItem (is_well_formed tag)) {x = (record { param = p.0.0; negated = negated; test = v.0.0 }, v.0.1)}
     (ok_same (record { param = p.0.0; negated = negated; test = v.0.0 }, v.0.1) x v.2)
     (record {
-      item = and_true _ _ fine.within (and_true _ _ (same_kind (is_number_test v.0.0) (is_number_at tag p.0.0) test.kind) test.sensible);
+      item = and_from _ _ fine.within (and_from _ _ (same_kind (is_number_test v.0.0) (is_number_at tag p.0.0) test.kind) test.sensible);
       rest = test.rest;
     })
 
@@ -419,8 +420,8 @@ rule_fine laws line action tokens t rules h =
 
 grant_rest : (tokens : Lexemes) (x : Grant × Lexemes) → grant_at tokens ≡ Ok x → AreText tokens → AreText x.1
 grant_rest tokens x h t =
-    let w = made (word_or (UnknownWord wrong.Quoted) tokens) (λ word. or_fails tokens (UnknownWord wrong.Unknown) (grant_of word.0) >>= λ grant. Ok (grant, word.1)) x h in
-    let g = made (or_fails tokens (UnknownWord wrong.Unknown) (grant_of w.0.0)) (λ grant. Ok (grant, w.0.1)) x w.2 in
+    let w = made (word_or (UnknownWord wrong.Quoted) tokens) (λ word. or_fails tokens (OtherWord word_due.Grant) (grant_of word.0) >>= λ grant. Ok (grant, word.1)) x h in
+    let g = made (or_fails tokens (OtherWord word_due.Grant) (grant_of w.0.0)) (λ grant. Ok (grant, w.0.1)) x w.2 in
     subst (λ (y : Grant × Lexemes). AreText y.1) {x = (g.0, w.0.1)} (ok_same (g.0, w.0.1) x g.2) (word_rest (UnknownWord wrong.Quoted) tokens w.0 w.1 t)
 
 grant_fine : Texts → (line : ℕ) (tokens : Lexemes) → AreText tokens → Rules (grant line tokens)
@@ -458,7 +459,7 @@ rules_kept [] rules h k new e = no_heading (sym (added_nowhere rules) ∙ e)
 rules_kept (policy ∷ policies) rules h k new e =
     let parts = has_last policy policies in
     let added = sym (last_rules parts.before parts.last rules) ∙ ap (λ (ps : List Policy). with_last_rules ps rules) (sym parts.same) ∙ e in
-    let t = chosen (TooMany limit.Rules) (nat_le (length parts.last.rules + length rules) 256) _ new added in
+    let t = changed (TooMany limit.Rules) (nat_le (length parts.last.rules + length rules) 256) parts.before _ new added in
     let room = t.0 in
     let few : length parts.last.rules + length rules ≤ 256 = grind (arith, nat_tests, room) in
     subst (λ ps. are_well_made ps ≡ true) t.1
@@ -475,7 +476,7 @@ added_kept line policies read h f new e =
 another_name : (policies : List Policy) (word name : List ℕ) → new_name policies word ≡ Ok name → list_any (is_named name) policies ≡ false
 another_name policies word name h = by_tests (is_short_name word) (list_any (is_named word) policies) refl h
   where
-    by_tests : (s t : Bool) → list_any (is_named word) policies ≡ t → cond s (cond t (Err SameName) (Ok word)) (Err (UnknownWord wrong.Unknown)) ≡ Ok name → list_any (is_named name) policies ≡ false
+    by_tests : (s t : Bool) → list_any (is_named word) policies ≡ t → cond s (cond t (Err SameName) (Ok word)) (Err (OtherWord word_due.Name)) ≡ Ok name → list_any (is_named name) policies ≡ false
     by_tests true true k e = absurd cc
     by_tests true false k e = subst (λ n. list_any (is_named n) policies ≡ false) (ok_same word name e) k
     by_tests false t k e = absurd cc
@@ -522,7 +523,7 @@ lines_kept : Texts → (version : ℕ) (lines : List NumberedLine) (policies : L
 unfolding read_lines
 lines_kept laws version [] policies h t new e = subst (λ ps. are_well_made ps ≡ true) (ok_same policies new e) h
 lines_kept laws version (line ∷ lines) policies h t new e =
-    let parts = both (has_quoted_text line) (list_all has_quoted_text lines) t in
+    let parts = and_parts (has_quoted_text line) (list_all has_quoted_text lines) t in
     by_line (add_line version policies line) (line_kept laws version policies line.number (tokens_of line.text) h parts.0)
     (λ more k. lines_kept laws version lines more k parts.1) new e
   where
@@ -540,7 +541,7 @@ first_kept laws first (Err fault) lines t new e = absurd cc
 by_kept : Texts → (lines : List NumberedLine) → list_all has_quoted_text lines ≡ true → KeptText (read_by grammar lines)
 by_kept laws [] t new e = absurd cc
 by_kept laws (first ∷ lines) t new e =
-    first_kept laws first (policy_version first.text) lines (both (has_quoted_text first) (list_all has_quoted_text lines) t).1 new e
+    first_kept laws first (policy_version first.text) lines (and_parts (has_quoted_text first) (list_all has_quoted_text lines) t).1 new e
 
 pub read_well_made : Texts → QuotedTokensAreText → ReadPoliciesAreWellMade
 read_well_made laws law text new e = by_place (not_utf8_place text) refl e

@@ -17,7 +17,8 @@ use Rattle.sb_ruletext.specs.PolicyTexts.{grammar}
 use Rattle.sb_call.specs.CallWords.{is_word}
 use Rattle.sb_ruletext.specs.Words.{action_of}
 use Rattle.sb_ruletext.specs.declared.faults.PolicyFaultKind.{PolicyFaultKind}
-use Rattle.sb_ruletext.specs.declared.faults.PolicyFaultKind.TheVariants.{TooMany, UnknownWord, SameName, NotReadOnly}
+use Rattle.sb_ruletext.specs.declared.faults.WordDue.TheVariants as word_due
+use Rattle.sb_ruletext.specs.declared.faults.PolicyFaultKind.TheVariants.{TooMany, OtherWord, UnknownWord, SameName, NotReadOnly}
 use Rattle.sb_ruletext.specs.declared.faults.PolicyLimit.TheVariants.{Policies, Rules}
 use Rattle.sb_ruletext.specs.declared.grants.Grant.{Grant}
 use Rattle.sb_ruletext.specs.declared.grants.Grant.TheVariants.{FilesAny, FilesReadonly, FilesQuery, PipesAny, RegistryAny, RegistryReadonly, EventsAny, EventsReadonly}
@@ -27,7 +28,7 @@ use Rattle.sb_text.specs.ReadingLaws as laws
 use Rattle.sb_text.specs.Readings.{renumbered, behind}
 use Rattle.sb_text.specs.Steps.{◌>>=◌, or_fails, unless_fails, at_token, on_value, Read, end_at}
 use Rattle.sb_text.specs.declared.refusals.TokenFault.{TokenFault}
-use Rattle.sb_text.specs.declared.refusals.WordFault.TheVariants.{Unknown, Unquoted, Extra, Broken}
+use Rattle.sb_text.specs.declared.refusals.WordFault.TheVariants.{Unquoted, Extra, Broken}
 use Rattle.sb_text.specs.Tokens.{Lexemes, Next, End, Word, Quoted, Bad, tokens_of}
 
 then : {A B C E : Type 0} (f : B → C) (first : Result A E) (g : A → Result B E) (h : A → Result C E)
@@ -125,7 +126,7 @@ added_moves f line (policy ∷ policies) rules others h =
 
 same_name : (f : ℕ → ℕ) (policies : List Policy) (tokens : Lexemes) → name_at policies tokens ≡ name_at (map (renumbered_policy f) policies) tokens
 same_name f policies (Next place (Word w) tokens) =
-    ap (λ b. at_token (Next place (Word w) tokens) (cond (is_short_name w) (cond b (Err SameName) (Ok w)) (Err (UnknownWord Unknown))) >>= λ name. Ok (name, tokens)) (sym (same_names f w policies))
+    ap (λ b. at_token (Next place (Word w) tokens) (cond (is_short_name w) (cond b (Err SameName) (Ok w)) (Err (OtherWord word_due.Name))) >>= λ name. Ok (name, tokens)) (sym (same_names f w policies))
 same_name f policies (End place) = refl
 same_name f policies (Next place (Quoted q) tokens) = refl
 same_name f policies (Next place Bad tokens) = refl

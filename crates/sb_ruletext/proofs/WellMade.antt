@@ -1,5 +1,6 @@
 -- The rules and policies that are read are well made.
 use Rattle.std.proofs.Common.{◌≡◌, refl, ℕ, ◌≤◌, List, [], ◌∷◌, true, length, nat_le, arith}
+use Rattle.std.proofs.lemmas.Bool.{and_from}
 use Rattle.std.proofs.lemmas.Bool.Decides.{nat_tests}
 use Rattle.std.specs.List.{list_all}
 use Rattle.sb_call.specs.declared.tags.CallTag.{CallTag}
@@ -7,7 +8,6 @@ use Rattle.sb_rule.specs.declared.cells.Cell.{Cell}
 use Rattle.sb_rule.specs.WellMade.{is_like_text, is_well_made_rule, is_well_formed, is_for_readers}
 use Rattle.sb_rule.specs.declared.actions.Action.{Action}
 use Rattle.sb_rule.specs.declared.conditions.Cond.{Cond}
-use Rattle.sb_ruletext.proofs.Conjunctions.{and_true}
 use Rattle.sb_ruletext.specs.Grants.{rules_of}
 use Rattle.sb_ruletext.specs.declared.grants.Grant.{Grant}
 use Rattle.sb_ruletext.specs.declared.grants.Grant.TheVariants.{FilesAny, FilesReadonly, FilesQuery, PipesAny, RegistryAny, RegistryReadonly, EventsAny, EventsReadonly}
@@ -29,4 +29,4 @@ pub one_well_made : (tag : CallTag) (conds : List Cond) (action : Action) (line 
     → list_all (is_well_formed tag) conds ≡ true → list_all is_well_made_rule (record { tag = tag; conds = conds; action = action; line = line } ∷ []) ≡ true
 one_well_made tag conds action line l r h =
     let few : nat_le (length conds) 8 ≡ true = grind (arith, nat_tests) in
-    and_true _ _ (and_true _ _ (and_true _ _ few r) h) refl
+    and_from _ _ (and_from _ _ (and_from _ _ few r) h) refl

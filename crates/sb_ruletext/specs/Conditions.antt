@@ -17,18 +17,20 @@ use Rattle.sb_call.specs.CallWords.{is_word}
 use Rattle.sb_ruletext.specs.Words.{parameter_of}
 use Rattle.sb_ruletext.specs.declared.faults.PolicyFaultKind.{PolicyFaultKind}
 use Rattle.sb_ruletext.specs.declared.faults.PolicyLimit.TheVariants.{Conditions, Numbers}
-use Rattle.sb_ruletext.specs.declared.faults.PolicyFaultKind.TheVariants.{UnknownWord, UnknownParam, WrongKind, BadNumber, EmptyRange, BadPattern}
+use Rattle.sb_ruletext.specs.declared.faults.FitDue.TheVariants as fit_due
+use Rattle.sb_ruletext.specs.declared.faults.WordDue.TheVariants as word_due
+use Rattle.sb_ruletext.specs.declared.faults.PolicyFaultKind.TheVariants.{UnknownWord, OtherWord, UnknownParam, WrongKind, BadNumber, NoRange, EmptyRange, BadPattern}
 use Rattle.sb_text.specs.Numbers.{number_of}
 use Rattle.sb_text.specs.Columns.{fails, fails_within}
 use Rattle.sb_text.specs.Steps.{◌>>=◌, or_fault, or_fails, at_token, Read, begins_with, later}
 use Rattle.sb_text.specs.Tokens.{Lexemes, string_of}
 use Rattle.sb_text.specs.declared.refusals.TokenFault.{TokenFault}
-use Rattle.sb_text.specs.declared.refusals.WordFault.TheVariants.{Unknown, Quoted}
+use Rattle.sb_text.specs.declared.refusals.WordFault.TheVariants.{Quoted}
 
 -- N: a number
 abbrev pub number_at : Lexemes → Read ℕ PolicyFaultKind
 number_at tokens = do
-  (word, rest) ← word_or WrongKind tokens
+  (word, rest) ← word_or (WrongKind fit_due.Number) tokens
   n ← or_fails tokens BadNumber (number_of word)
   Ok (n, rest)
 
@@ -58,15 +60,15 @@ range lo hi = if nat_le lo hi then Ok (Range lo hi) else Err EmptyRange
 -- LO..HI: two numbers joined by `..`. Each fault is one of the whole word
 abbrev pub range_of : List ℕ → Result Test PolicyFaultKind
 range_of word = do
-  (before, after) ← or_fault BadNumber (around_dots word)
-  lo ← or_fault BadNumber (number_of before)
-  hi ← or_fault BadNumber (number_of after)
+  (before, after) ← or_fault NoRange (around_dots word)
+  lo ← or_fault NoRange (number_of before)
+  hi ← or_fault NoRange (number_of after)
   range lo hi
 
 -- LO..HI as one word
 abbrev pub range_at : Lexemes → Read Test PolicyFaultKind
 range_at tokens = do
-  (word, rest) ← word_or WrongKind tokens
+  (word, rest) ← word_or (WrongKind fit_due.Number) tokens
   test ← at_token tokens (range_of word)
   Ok (test, rest)
 
@@ -95,13 +97,13 @@ cells_at word tokens = do
 -- "S": a string
 abbrev pub string_at : Lexemes → Read Test PolicyFaultKind
 string_at tokens = do
-  (quoted, rest) ← quoted_or WrongKind tokens
+  (quoted, rest) ← quoted_or (WrongKind fit_due.Text) tokens
   text ← at_token tokens (string quoted)
   Ok (Equal text, rest)
 
 -- "P": a pattern
 abbrev pub pattern_at : Lexemes → Read Test PolicyFaultKind
-pattern_at tokens = cells_at WrongKind tokens >>= λ (cells, rest). Ok (Like cells, rest)
+pattern_at tokens = cells_at (WrongKind fit_due.Text) tokens >>= λ (cells, rest). Ok (Like cells, rest)
 
 -- `is` and its value, on a number or on a string
 abbrev pub is_at : Bool → Lexemes → Read Test PolicyFaultKind
@@ -111,16 +113,16 @@ is_at false tokens = string_at tokens
 -- `in` and its value; the first list begins with the test word, which does not fit a string
 abbrev pub in_at : Bool → Lexemes → Lexemes → Read Test PolicyFaultKind
 in_at true tokens rest = range_at rest
-in_at false tokens rest = fails tokens WrongKind
+in_at false tokens rest = fails tokens (WrongKind fit_due.TextTest)
 
 -- `has` and its value
 abbrev pub has_at : Bool → Lexemes → Lexemes → Read Test PolicyFaultKind
 has_at true tokens rest = number_at rest >>= λ (mask, after). Ok (Mask mask, after)
-has_at false tokens rest = fails tokens WrongKind
+has_at false tokens rest = fails tokens (WrongKind fit_due.TextTest)
 
 -- `like` and its value
 abbrev pub like_at : Bool → Lexemes → Lexemes → Read Test PolicyFaultKind
-like_at true tokens rest = fails tokens WrongKind
+like_at true tokens rest = fails tokens (WrongKind fit_due.NumberTest)
 like_at false tokens rest = pattern_at rest
 
 -- a test word, and a value that fits it; the first argument tells whether the parameter is a number
@@ -131,13 +133,13 @@ test_at is_number tokens = do
       else (if is_word (codes "in") word then in_at is_number tokens rest
       else (if is_word (codes "has") word then has_at is_number tokens rest
       else (if is_word (codes "like") word then like_at is_number tokens rest
-      else fails tokens (UnknownWord Unknown))))
+      else fails tokens (OtherWord word_due.Test))))
 
 -- the name of a parameter of the call
 abbrev pub parameter_at : CallTag → Lexemes → Read ℕ PolicyFaultKind
 parameter_at tag tokens = do
-  (word, rest) ← word_or UnknownParam tokens
-  param ← or_fails tokens UnknownParam (parameter_of tag word)
+  (word, rest) ← word_or (UnknownParam tag) tokens
+  param ← or_fails tokens (UnknownParam tag) (parameter_of tag word)
   Ok (param, rest)
 
 -- the parameter of a call is a number

@@ -4,11 +4,9 @@ pub mod Steps
 pub mod Conditions
 pub mod Grants
 pub mod Lines
-pub mod Drafts
 pub mod PolicyTexts
 pub mod NoteKinds
 pub mod Notes
-pub mod NotedTexts
 pub mod Printing
 pub mod Values
 pub mod PrintingLaws

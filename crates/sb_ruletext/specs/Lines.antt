@@ -11,27 +11,32 @@ use Rattle.sb_rule.specs.declared.conditions.Cond.{Cond}
 use Rattle.sb_rule.specs.declared.policies.Policy.{Policy}
 use Rattle.sb_rule.specs.declared.policies.Rule.{Rule}
 use Rattle.sb_ruletext.specs.Conditions.{cells_at, conditions_of}
-use Rattle.sb_ruletext.specs.Drafts.{is_headed}
 use Rattle.sb_ruletext.specs.Grants.{grant_of, rules_of}
 use Rattle.sb_call.specs.CallWords.{is_word, tag_of_word}
 use Rattle.sb_ruletext.specs.Steps.{word_or, quoted_or, line_end}
 use Rattle.sb_ruletext.specs.Words.{action_of}
 use Rattle.sb_ruletext.specs.declared.faults.PolicyFaultKind.{PolicyFaultKind}
 use Rattle.sb_ruletext.specs.declared.faults.PolicyLimit.TheVariants.{Policies, Rules}
-use Rattle.sb_ruletext.specs.declared.faults.PolicyFaultKind.TheVariants.{UnknownWord, UnknownCall, TooMany, SameName, NoHeading, NotReadOnly}
+use Rattle.sb_ruletext.specs.declared.faults.PolicyFaultKind.TheVariants.{UnknownWord, OtherWord, UnknownCall, TooMany, SameName, NoHeading, NotReadOnly}
+use Rattle.sb_ruletext.specs.declared.faults.WordDue.TheVariants as word_due
 use Rattle.sb_ruletext.specs.declared.grants.Grant.{Grant}
 use Rattle.sb_text.specs.Columns.{fails}
 use Rattle.sb_text.specs.Steps.{◌>>=◌, or_fails, unless_fails, at_token, Read, begins_with, later, is_end}
 use Rattle.sb_text.specs.Tokens.{Lexemes, Next, Bad}
 use Rattle.sb_text.specs.declared.refusals.TokenFault.{TokenFault}
-use Rattle.sb_text.specs.declared.refusals.WordFault.TheVariants.{Unknown, Broken, Quoted, Unquoted, Misplaced}
+use Rattle.sb_text.specs.declared.refusals.WordFault.TheVariants.{Broken, Quoted, Unquoted, Misplaced}
+
+-- there is a policy
+abbrev pub is_headed : List Policy → Bool
+is_headed [] = false
+is_headed (policy ∷ policies) = true
 
 -- NAME: a short name that no policy so far has
 abbrev pub new_name : List Policy → List ℕ → Result (List ℕ) PolicyFaultKind
 new_name policies name =
     if is_short_name name
     then (if list_any (is_named name) policies then Err SameName else Ok name)
-    else Err (UnknownWord Unknown)
+    else Err (OtherWord word_due.Name)
 
 -- the name of a policy
 abbrev pub name_at : List Policy → Lexemes → Read (List ℕ) PolicyFaultKind
@@ -62,7 +67,7 @@ call_at tokens = do
 -- what is here in place of `when`
 abbrev pub end_at_when : {A : Type 0} → Lexemes → Result A (TokenFault PolicyFaultKind)
 end_at_when (Next place Bad tokens) = fails (Next place Bad tokens) (UnknownWord Broken)
-end_at_when tokens = fails tokens (UnknownWord Unknown)
+end_at_when tokens = fails tokens (OtherWord word_due.When)
 
 -- nothing, or `when` and conditions, up to the line's end
 abbrev pub when_of : CallTag → Lexemes → Result (List Cond) (TokenFault PolicyFaultKind)
@@ -82,7 +87,7 @@ rule line action tokens = do
 abbrev pub grant_at : Lexemes → Read Grant PolicyFaultKind
 grant_at tokens = do
   (word, rest) ← word_or (UnknownWord Quoted) tokens
-  grant ← or_fails tokens (UnknownWord Unknown) (grant_of word)
+  grant ← or_fails tokens (OtherWord word_due.Grant) (grant_of word)
   Ok (grant, rest)
 
 -- `grant GRANT "PATTERN"`, after its first word: the rules of the grant
@@ -121,7 +126,7 @@ with_rule policies number action line tokens = do
 
 -- why a first word is not known: `readonly` is, in a text of version 2
 abbrev pub first_word_fault : List ℕ → PolicyFaultKind
-first_word_fault word = if is_word (codes "readonly") word then UnknownWord Misplaced else UnknownWord Unknown
+first_word_fault word = if is_word (codes "readonly") word then UnknownWord Misplaced else OtherWord word_due.Line
 
 -- the policies so far and what a line adds to them
 unfoldable pub line_of : ℕ → List Policy → ℕ → Lexemes → Result (List Policy) (TokenFault PolicyFaultKind)

@@ -5,17 +5,17 @@ ghost use Rattle.sb_ruletext.specs.Conditions.{number_at, numbers_at, after_dots
 ghost use Rattle.sb_ruletext.specs.Steps.{excess};
 ghost use Rattle.sb_base.specs.Refusals.{Gives};
 ghost use Rattle.sb_text.specs.Steps.{Reads, at_token, or_fault};
-ghost use Rattle.sb_ruletext.specs.declared.faults.PolicyFaultKind.TheVariants.{BadNumber};
+ghost use Rattle.sb_ruletext.specs.declared.faults.PolicyFaultKind.TheVariants.{NoRange};
 ghost use Rattle.sb_text.specs.Numbers.{number_of};
 ghost use Rattle.sb_text.specs.Tokens.{string_of};
 
 use crate::faults::PolicyFaultKind::{
-    self, BadNumber, BadPattern, UnknownParam, UnknownWord, WrongKind,
+    self, BadNumber, BadPattern, NoRange, OtherWord, UnknownParam, UnknownWord, WrongKind,
 };
-use crate::faults::{LineRefused, PolicyLimit};
+use crate::faults::{FitDue, LineRefused, PolicyLimit, WordDue};
 use crate::readers::{at_token, line_end, quoted_or, word_or};
 use crate::words::parameter_of;
-use sb_base::{Wide, is_word};
+use sb_base::Wide;
 use sb_call::CallTag;
 use sb_rule::{
     Cond, Conds, MAX_CONDITIONS, MAX_NUMBERS, MAX_UNITS, Numbers, Pattern, PatternFault,
@@ -29,7 +29,7 @@ fn number_at(tokens: &mut Tokens) -> Result<u64, LineRefused>
     ensures { Reads (number_at tokens.old) result tokens.new }
 {
     let due = tokens.copy();
-    let word = word_or(WrongKind, tokens)?;
+    let word = word_or(WrongKind(FitDue::Number), tokens)?;
     or_fails(&due, BadNumber, number_of(word))
 }
 
@@ -84,18 +84,18 @@ fn around_dots(word: &[u8]) -> Option<(&[u8], &[u8])>
     None
 }
 
-// A number, or its fault.
+// A number of a range, or the fault of that range.
 fn number(word: &[u8]) -> Result<u64, PolicyFaultKind>
-    ensures { result ≡ or_fault BadNumber (number_of word.now) }
+    ensures { result ≡ or_fault NoRange (number_of word.now) }
 {
-    number_of(word).ok_or(BadNumber)
+    number_of(word).ok_or(NoRange)
 }
 
 // LO..HI: two numbers joined by `..`.
 fn range_of(word: &[u8]) -> Result<Test, PolicyFaultKind>
     ensures { result ≡ range_of word.now }
 {
-    let (low, high) = around_dots(word).ok_or(BadNumber)?;
+    let (low, high) = around_dots(word).ok_or(NoRange)?;
     let lo = number(low)?;
     let hi = number(high)?;
     if lo <= hi {
@@ -110,7 +110,7 @@ fn range_at(tokens: &mut Tokens) -> Result<Test, LineRefused>
     ensures { Reads (range_at tokens.old) result tokens.new }
 {
     let due = tokens.copy();
-    let word = word_or(WrongKind, tokens)?;
+    let word = word_or(WrongKind(FitDue::Number), tokens)?;
     at_token(&due, range_of(word))
 }
 
@@ -163,7 +163,7 @@ fn string_at(alloc: Global, tokens: &mut Tokens) -> Result<Test, LineRefused>
     ensures { Reads (string_at tokens.old) result tokens.new }
 {
     let due = tokens.copy();
-    let quoted = quoted_or(WrongKind, tokens)?;
+    let quoted = quoted_or(WrongKind(FitDue::Text), tokens)?;
     Ok(Test::Equal(string(alloc, &due, quoted)?))
 }
 
@@ -171,7 +171,7 @@ fn string_at(alloc: Global, tokens: &mut Tokens) -> Result<Test, LineRefused>
 fn pattern_at(alloc: Global, tokens: &mut Tokens) -> Result<Test, LineRefused>
     ensures { Reads (pattern_at tokens.old) result tokens.new }
 {
-    Ok(Test::Like(cells_at(alloc, WrongKind, tokens)?))
+    Ok(Test::Like(cells_at(alloc, WrongKind(FitDue::Text), tokens)?))
 }
 
 // The value of `is`.
@@ -192,7 +192,7 @@ fn in_at(is_number: bool, due: &Tokens, tokens: &mut Tokens) -> Result<Test, Lin
     if is_number {
         range_at(tokens)
     } else {
-        Err(due.fail(WrongKind))
+        Err(due.fail(WrongKind(FitDue::TextTest)))
     }
 }
 
@@ -203,7 +203,7 @@ fn has_at(is_number: bool, due: &Tokens, tokens: &mut Tokens) -> Result<Test, Li
     if is_number {
         Ok(Test::Mask(number_at(tokens)?))
     } else {
-        Err(due.fail(WrongKind))
+        Err(due.fail(WrongKind(FitDue::TextTest)))
     }
 }
 
@@ -217,7 +217,7 @@ fn like_at(
     ensures { Reads (like_at is_number due.now tokens.old) result tokens.new }
 {
     if is_number {
-        Err(due.fail(WrongKind))
+        Err(due.fail(WrongKind(FitDue::NumberTest)))
     } else {
         pattern_at(alloc, tokens)
     }
@@ -230,16 +230,16 @@ fn test_at(alloc: Global, is_number: bool, tokens: &mut Tokens) -> Result<Test, 
 {
     let due = tokens.copy();
     let word = word_or(UnknownWord(WordFault::Quoted), tokens)?;
-    if is_word(word, b"is") {
+    if word == b"is".as_slice() {
         is_at(alloc, is_number, tokens)
-    } else if is_word(word, b"in") {
+    } else if word == b"in".as_slice() {
         in_at(is_number, &due, tokens)
-    } else if is_word(word, b"has") {
+    } else if word == b"has".as_slice() {
         has_at(is_number, &due, tokens)
-    } else if is_word(word, b"like") {
+    } else if word == b"like".as_slice() {
         like_at(alloc, is_number, &due, tokens)
     } else {
-        Err(due.fail(UnknownWord(WordFault::Unknown)))
+        Err(due.fail(OtherWord(WordDue::Test)))
     }
 }
 
@@ -248,8 +248,8 @@ fn parameter_at(tag: CallTag, tokens: &mut Tokens) -> Result<u32, LineRefused>
     ensures { Reads (parameter_at tag tokens.old) result tokens.new }
 {
     let due = tokens.copy();
-    let word = word_or(UnknownParam, tokens)?;
-    or_fails(&due, UnknownParam, parameter_of(tag, word))
+    let word = word_or(UnknownParam(tag), tokens)?;
+    or_fails(&due, UnknownParam(tag), parameter_of(tag, word))
 }
 
 // Whether the parameter of a call is a number.

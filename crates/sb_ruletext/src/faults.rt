@@ -2,6 +2,7 @@
 ghost use Rattle.std.specs.Prelude.{◌≡◌};
 ghost use Rattle.sb_ruletext.specs.Kinds.{kind_number};
 
+use sb_call::CallTag;
 use sb_rule::PatternFault;
 use sb_text::{LineFault, Refused, TokenFault, WordFault};
 
@@ -18,6 +19,34 @@ pub enum PolicyLimit {
     Numbers,
 }
 
+/// What has to stand where another word is.
+#[derive(Clone, Copy, Debug)]
+pub enum WordDue {
+    /// The first word of a line: `policy`, `grant` or an action.
+    Line,
+    /// The name of a policy: a short name.
+    Name,
+    /// `when`, if the line does not end with its call.
+    When,
+    /// A grant.
+    Grant,
+    /// A test.
+    Test,
+}
+
+/// What has to stand in place of a test or value that does not fit its parameter.
+#[derive(Clone, Copy, Debug)]
+pub enum FitDue {
+    /// A number, which has no quotes.
+    Number,
+    /// A string or a pattern, between quotes.
+    Text,
+    /// A test of a number.
+    NumberTest,
+    /// A test of a string.
+    TextTest,
+}
+
 /// What is wrong with a line of a policy text.
 #[derive(Clone, Copy, Debug)]
 pub enum PolicyFaultKind {
@@ -25,16 +54,20 @@ pub enum PolicyFaultKind {
     NotUtf8,
     /// The first line that is neither blank nor a comment is neither `sandbox-policy 1` nor `sandbox-policy 2`.
     BadVersion,
-    /// A word that is not known here, or a token that is missing, broken or one too many.
+    /// A token that is missing, broken, quoted or one too many, or a word that a later version of the format has.
     UnknownWord(WordFault),
+    /// A word that is none of those that may stand here.
+    OtherWord(WordDue),
     /// There is no call of this name.
     UnknownCall,
-    /// The call has no parameter of this name.
-    UnknownParam,
-    /// The test or its value does not fit the parameter.
-    WrongKind,
-    /// No number below 2^64, or no two numbers joined by `..`.
+    /// This call has no parameter of this name.
+    UnknownParam(CallTag),
+    /// The test or its value does not fit the parameter, where this is due.
+    WrongKind(FitDue),
+    /// No number below 2^64.
     BadNumber,
+    /// No range `LO..HI` in one word, of numbers below 2^64.
+    NoRange,
     /// The low end of a range is above its high end.
     EmptyRange,
     /// The pattern has this fault; a string of more than 256 units is `TooLong`.
@@ -57,11 +90,11 @@ impl PolicyFaultKind {
         match self {
             PolicyFaultKind::NotUtf8 => 1,
             PolicyFaultKind::BadVersion => 2,
-            PolicyFaultKind::UnknownWord(_) => 3,
+            PolicyFaultKind::UnknownWord(_) | PolicyFaultKind::OtherWord(_) => 3,
             PolicyFaultKind::UnknownCall => 4,
-            PolicyFaultKind::UnknownParam => 5,
-            PolicyFaultKind::WrongKind => 6,
-            PolicyFaultKind::BadNumber => 7,
+            PolicyFaultKind::UnknownParam(_) => 5,
+            PolicyFaultKind::WrongKind(_) => 6,
+            PolicyFaultKind::BadNumber | PolicyFaultKind::NoRange => 7,
             PolicyFaultKind::EmptyRange => 8,
             PolicyFaultKind::BadPattern(_) => 9,
             PolicyFaultKind::TooMany(_) => 10,

@@ -1,5 +1,5 @@
 // Grants: one line that is short for several rules.
-ghost use Rattle.std.specs.Prelude.{◌≡◌, ◌∷◌, ◌++◌, [], IfOk, OnOk};
+ghost use Rattle.std.specs.Prelude.{◌≡◌, ◌∷◌, [], IfOk};
 ghost use Rattle.sb_call.specs.declared.tags.CallTag.TheVariants.{FileCreate, FileRename};
 ghost use Rattle.sb_ruletext.specs.declared.grants.Grant.TheVariants.{FilesAny, FilesReadonly};
 ghost use Rattle.sb_ruletext.specs.Grants.{grant_word, grants, grant_of, like_at, reads_at, opens_at, allowing, rules_of};
@@ -102,162 +102,103 @@ fn reads_at(param: u32) -> Cond
 fn opens_at(alloc: Global, param: u32) -> Result<Cond, NoMemory>
     ensures { IfOk result (λ cond. cond ≡ opens_at param) }
 {
-    let mut numbers = Numbers::empty(alloc);
-    numbers.push(OPEN)?;
+    let numbers = vec![in alloc; OPEN]?;
     Ok(Cond {
         param,
         negated: false,
-        test: Test::OneOf(numbers),
+        test: Test::OneOf(Numbers::new(numbers)),
     })
+}
+
+// The rule that allows a call if these conditions hold.
+fn allowing(line: u32, tag: CallTag, conds: Vec<Cond>) -> Rule
+    ensures { result ≡ allowing line tag conds.items }
+{
+    Rule {
+        tag,
+        conds: Conds::new(conds),
+        action: Action::Allow,
+        line,
+    }
 }
 
 // The rule that allows a call if its name matches the pattern.
 fn named(alloc: Global, line: u32, tag: CallTag, pattern: &Pattern) -> Result<Rule, NoMemory>
     ensures { IfOk result (λ rule. rule ≡ allowing line tag (like_at 0 pattern.now ∷ [])) }
 {
-    let mut conds = Conds::empty(alloc);
-    conds.push(like_at(0, pattern)?)?;
-    Ok(Rule {
-        tag,
-        conds,
-        action: Action::Allow,
-        line,
-    })
+    let name = like_at(0, pattern)?;
+    Ok(allowing(line, tag, vec![in alloc; name]?))
 }
 
 // The rule that allows to open what is there, if its name matches the pattern and the access only reads.
 fn reading(alloc: Global, line: u32, tag: CallTag, pattern: &Pattern) -> Result<Rule, NoMemory>
     ensures { IfOk result (λ rule. rule ≡ allowing line tag (like_at 0 pattern.now ∷ reads_at 1 ∷ [])) }
 {
-    let mut rule = named(alloc, line, tag, pattern)?;
-    rule.conds.push(reads_at(1))?;
-    Ok(rule)
+    let name = like_at(0, pattern)?;
+    Ok(allowing(line, tag, vec![in alloc; name, reads_at(1)]?))
 }
 
 // The rule that allows to give a file that matches the pattern another such name.
 fn renaming(alloc: Global, line: u32, pattern: &Pattern) -> Result<Rule, NoMemory>
     ensures { IfOk result (λ rule. rule ≡ allowing line FileRename (like_at 0 pattern.now ∷ like_at 1 pattern.now ∷ [])) }
 {
-    let mut rule = named(alloc, line, CallTag::FileRename, pattern)?;
-    rule.conds.push(like_at(1, pattern)?)?;
-    Ok(rule)
+    let name = like_at(0, pattern)?;
+    let to = like_at(1, pattern)?;
+    Ok(allowing(line, CallTag::FileRename, vec![in alloc; name, to]?))
 }
 
 // The rule that allows `file.create` to open a file that is there, if the access only reads.
 fn opening(alloc: Global, line: u32, pattern: &Pattern) -> Result<Rule, NoMemory>
     ensures { IfOk result (λ rule. rule ≡ allowing line FileCreate (like_at 0 pattern.now ∷ reads_at 2 ∷ opens_at 4 ∷ [])) }
 {
-    let mut rule = named(alloc, line, CallTag::FileCreate, pattern)?;
-    rule.conds.push(reads_at(2))?;
-    rule.conds.push(opens_at(alloc, 4)?)?;
-    Ok(rule)
+    let name = like_at(0, pattern)?;
+    let opens = opens_at(alloc, 4)?;
+    Ok(allowing(
+        line,
+        CallTag::FileCreate,
+        vec![in alloc; name, reads_at(2), opens]?,
+    ))
 }
 
 /// One rule.
 pub(crate) fn one(alloc: Global, rule: Rule) -> Result<Rules, NoMemory>
     ensures { IfOk result (λ rules. rules ≡ rule ∷ []) }
 {
-    let mut rules = Rules::empty(alloc);
-    rules.push(rule)?;
-    Ok(rules)
+    Ok(Rules::new(vec![in alloc; rule]?))
 }
 
-// Appends the rule that allows a call if its name matches the pattern.
-fn put_named(
+// The rules that allow two calls if their names match the pattern.
+fn both(
     alloc: Global,
-    rules: &mut Rules,
     line: u32,
-    tag: CallTag,
+    first: CallTag,
+    second: CallTag,
     pattern: &Pattern,
-) -> Result<(), NoMemory>
-    ensures { OnOk result (rules.new ≡ rules.old ++ allowing line tag (like_at 0 pattern.now ∷ []) ∷ []) }
+) -> Result<Rules, NoMemory>
+    ensures { IfOk result (λ rules. rules ≡ allowing line first (like_at 0 pattern.now ∷ []) ∷ allowing line second (like_at 0 pattern.now ∷ []) ∷ []) }
 {
-    rules.push(named(alloc, line, tag, pattern)?)
+    let first_rule = named(alloc, line, first, pattern)?;
+    let second_rule = named(alloc, line, second, pattern)?;
+    Ok(Rules::new(vec![in alloc; first_rule, second_rule]?))
 }
 
-// Appends the rule that allows to open what is there, if its name matches the pattern and the access only reads.
-fn put_reading(
-    alloc: Global,
-    rules: &mut Rules,
-    line: u32,
-    tag: CallTag,
-    pattern: &Pattern,
-) -> Result<(), NoMemory>
-    ensures { OnOk result (rules.new ≡ rules.old ++ allowing line tag (like_at 0 pattern.now ∷ reads_at 1 ∷ []) ∷ []) }
+fn files_any(alloc: Global, line: u32, pattern: &Pattern) -> Result<Rules, NoMemory>
+    ensures { IfOk result (λ rules. rules ≡ rules_of line FilesAny pattern.now) }
 {
-    rules.push(reading(alloc, line, tag, pattern)?)
+    let create = named(alloc, line, CallTag::FileCreate, pattern)?;
+    let open = named(alloc, line, CallTag::FileOpen, pattern)?;
+    let query = named(alloc, line, CallTag::FileQuery, pattern)?;
+    let rename = renaming(alloc, line, pattern)?;
+    Ok(Rules::new(vec![in alloc; create, open, query, rename]?))
 }
 
-// Appends the rules of `files_any`.
-fn put_files_any(
-    alloc: Global,
-    rules: &mut Rules,
-    line: u32,
-    pattern: &Pattern,
-) -> Result<(), NoMemory>
-    ensures { OnOk result (rules.new ≡ rules.old ++ rules_of line FilesAny pattern.now) }
+fn files_readonly(alloc: Global, line: u32, pattern: &Pattern) -> Result<Rules, NoMemory>
+    ensures { IfOk result (λ rules. rules ≡ rules_of line FilesReadonly pattern.now) }
 {
-    put_named(alloc, rules, line, CallTag::FileCreate, pattern)?;
-    put_named(alloc, rules, line, CallTag::FileOpen, pattern)?;
-    put_named(alloc, rules, line, CallTag::FileQuery, pattern)?;
-    rules.push(renaming(alloc, line, pattern)?)
-}
-
-// Appends the rules of `files_readonly`.
-fn put_files_readonly(
-    alloc: Global,
-    rules: &mut Rules,
-    line: u32,
-    pattern: &Pattern,
-) -> Result<(), NoMemory>
-    ensures { OnOk result (rules.new ≡ rules.old ++ rules_of line FilesReadonly pattern.now) }
-{
-    put_reading(alloc, rules, line, CallTag::FileOpen, pattern)?;
-    rules.push(opening(alloc, line, pattern)?)?;
-    put_named(alloc, rules, line, CallTag::FileQuery, pattern)
-}
-
-// Appends the rules that allow two calls if their names match the pattern.
-fn put_both(
-    alloc: Global,
-    rules: &mut Rules,
-    line: u32,
-    tags: (CallTag, CallTag),
-    pattern: &Pattern,
-) -> Result<(), NoMemory>
-    ensures { OnOk result (rules.new ≡ rules.old
-        ++ allowing line tags.0 (like_at 0 pattern.now ∷ []) ∷ allowing line tags.1 (like_at 0 pattern.now ∷ []) ∷ []) }
-{
-    put_named(alloc, rules, line, tags.0, pattern)?;
-    put_named(alloc, rules, line, tags.1, pattern)
-}
-
-// Appends the rules of a grant on a line, for a pattern.
-fn put_rules_of(
-    alloc: Global,
-    rules: &mut Rules,
-    line: u32,
-    grant: Grant,
-    pattern: &Pattern,
-) -> Result<(), NoMemory>
-    ensures { OnOk result (rules.new ≡ rules.old ++ rules_of line grant pattern.now) }
-{
-    match grant {
-        Grant::FilesAny => put_files_any(alloc, rules, line, pattern),
-        Grant::FilesReadonly => put_files_readonly(alloc, rules, line, pattern),
-        Grant::FilesQuery => put_named(alloc, rules, line, CallTag::FileQuery, pattern),
-        Grant::PipesAny => put_named(alloc, rules, line, CallTag::PipeCreate, pattern),
-        Grant::RegistryAny => {
-            let tags = (CallTag::KeyCreate, CallTag::KeyOpen);
-            put_both(alloc, rules, line, tags, pattern)
-        }
-        Grant::RegistryReadonly => put_reading(alloc, rules, line, CallTag::KeyOpen, pattern),
-        Grant::EventsAny => {
-            let tags = (CallTag::EventCreate, CallTag::EventOpen);
-            put_both(alloc, rules, line, tags, pattern)
-        }
-        Grant::EventsReadonly => put_reading(alloc, rules, line, CallTag::EventOpen, pattern),
-    }
+    let open = reading(alloc, line, CallTag::FileOpen, pattern)?;
+    let create = opening(alloc, line, pattern)?;
+    let query = named(alloc, line, CallTag::FileQuery, pattern)?;
+    Ok(Rules::new(vec![in alloc; open, create, query]?))
 }
 
 /// The rules of a grant on a line, for a pattern.
@@ -269,7 +210,20 @@ pub(crate) fn rules_of(
 ) -> Result<Rules, NoMemory>
     ensures { IfOk result (λ rules. rules ≡ rules_of line grant pattern.now) }
 {
-    let mut rules = Rules::empty(alloc);
-    put_rules_of(alloc, &mut rules, line, grant, pattern)?;
-    Ok(rules)
+    match grant {
+        Grant::FilesAny => files_any(alloc, line, pattern),
+        Grant::FilesReadonly => files_readonly(alloc, line, pattern),
+        Grant::FilesQuery => one(alloc, named(alloc, line, CallTag::FileQuery, pattern)?),
+        Grant::PipesAny => one(alloc, named(alloc, line, CallTag::PipeCreate, pattern)?),
+        Grant::RegistryAny => both(alloc, line, CallTag::KeyCreate, CallTag::KeyOpen, pattern),
+        Grant::RegistryReadonly => one(alloc, reading(alloc, line, CallTag::KeyOpen, pattern)?),
+        Grant::EventsAny => both(
+            alloc,
+            line,
+            CallTag::EventCreate,
+            CallTag::EventOpen,
+            pattern,
+        ),
+        Grant::EventsReadonly => one(alloc, reading(alloc, line, CallTag::EventOpen, pattern)?),
+    }
 }

@@ -9,7 +9,6 @@ mod grants;
 mod laws;
 mod lines;
 mod note_kinds;
-mod noted_texts;
 mod notes;
 mod policy_texts;
 mod printing;
@@ -17,14 +16,13 @@ mod printing_laws;
 mod readers;
 mod words;
 
-pub use faults::{PolicyFault, PolicyFaultKind, PolicyLimit, TextRefused};
+pub use faults::{FitDue, PolicyFault, PolicyFaultKind, PolicyLimit, TextRefused, WordDue};
 pub use laws::{
     first_faults_stay, lines_before_are_read, read_policies_are_well_made,
     silent_texts_lack_a_version, skipped_lines_count_alone,
 };
 pub use note_kinds::NoteKind;
-pub use noted_texts::read_noted_policies;
 pub use notes::{Note, read_notes};
-pub use policy_texts::read_policies;
-pub use printing::print_policies;
+pub use policy_texts::{read_noted_policies, read_policies};
+pub use printing::{print_policies, put_cond};
 pub use printing_laws::printed_policies_are_read;

@@ -1,61 +1,58 @@
 // Reading the lines below the version line.
-ghost use Rattle.std.specs.Prelude.{◌≡◌, OnErr};
+ghost use Rattle.std.specs.Prelude.{◌≡◌};
 ghost use Rattle.sb_base.specs.Refusals.{Gives};
-ghost use Rattle.sb_ruletext.specs.Drafts.{is_headed};
-ghost use Rattle.sb_ruletext.specs.Lines.{new_name, name_at, heading, call_at, end_at_when, when_of, rule, grant_at, grant, with_grant, with_rule, first_word_fault, line_of};
+ghost use Rattle.sb_ruletext.specs.Lines.{is_headed, new_name, name_at, heading, call_at, end_at_when, when_of, rule, grant_at, grant, with_grant, with_rule, first_word_fault, line_of};
 ghost use Rattle.sb_ruletext.specs.declared.faults.PolicyFaultKind.TheVariants.{NoHeading};
 ghost use Rattle.sb_text.specs.Steps.{Reads, Becomes, at_token, unless_fails};
 ghost use Rattle.sb_text.specs.Tokens.{tokens_of};
 
 use crate::conditions::{cells_at, conditions_of};
-use crate::drafts::Draft;
-use crate::faults::LineRefused;
-use crate::faults::PolicyFaultKind::{self, UnknownCall, UnknownWord};
+use crate::drafts::{add_policy, add_rules, is_any_named};
+use crate::faults::PolicyFaultKind::{self, OtherWord, UnknownCall, UnknownWord};
+use crate::faults::{LineRefused, WordDue};
 use crate::grants::{Grant, grant_of, one, rules_of};
 use crate::readers::{line_end, word_or};
 use crate::words::action_of;
-use sb_base::is_word;
 use sb_call::{CallTag, ShortName, tag_of_word};
-use sb_rule::{Action, Conds, Rule, Rules, is_for_readers};
+use sb_rule::{Action, Conds, Policy, PolicyList, Rule, Rules, is_for_readers};
 use sb_text::{Line, Token, Tokens, WordFault, or_fails};
 use std::alloc::Global;
 
 // NAME: a short name that no policy so far has, or its fault at the token that was due.
-fn new_name(draft: &Draft, due: &Tokens, word: &[u8]) -> Result<ShortName, LineRefused>
-    ensures { Gives (at_token due.now (new_name draft.now word.now)) result }
+fn new_name(policies: &[Policy], due: &Tokens, word: &[u8]) -> Result<ShortName, LineRefused>
+    ensures { Gives (at_token due.now (new_name policies.now word.now)) result }
 {
     let Some(name) = ShortName::new(word) else {
-        return Err(due.fail(UnknownWord(WordFault::Unknown)));
+        return Err(due.fail(OtherWord(WordDue::Name)));
     };
-    if draft.is_named(word) {
+    if is_any_named(policies, word) {
         return Err(due.fail(PolicyFaultKind::SameName));
     }
     Ok(name)
 }
 
 // The name of a policy.
-fn name_at(draft: &Draft, tokens: &mut Tokens) -> Result<ShortName, LineRefused>
-    ensures { Reads (name_at draft.now tokens.old) result tokens.new }
+fn name_at(policies: &[Policy], tokens: &mut Tokens) -> Result<ShortName, LineRefused>
+    ensures { Reads (name_at policies.now tokens.old) result tokens.new }
 {
     let due = tokens.copy();
     let word = word_or(UnknownWord(WordFault::Quoted), tokens)?;
-    new_name(draft, &due, word)
+    new_name(policies, &due, word)
 }
 
-// `policy NAME`, after its first word. After an error the policies are as they were.
+// `policy NAME`, after its first word.
 #[tactic(auto, unfolding(crate::specs::Lines::heading))]
 fn heading(
     alloc: Global,
-    draft: &mut Draft,
+    policies: &mut PolicyList,
     line: &Tokens,
     tokens: &mut Tokens,
 ) -> Result<(), LineRefused>
-    ensures read { Becomes (heading draft.old line.now tokens.old) result draft.new }
-    ensures kept { OnErr result (draft.new ≡ draft.old) }
+    ensures { Becomes (heading policies.old line.now tokens.old) result policies.new }
 {
-    let name = name_at(draft, tokens)?;
+    let name = name_at(policies.as_slice(), tokens)?;
     line_end(tokens)?;
-    draft.add_policy(alloc, line, name)
+    add_policy(alloc, policies, line, name)
 }
 
 // The name of a call.
@@ -73,7 +70,7 @@ fn end_at_when(tokens: &Tokens) -> Result<Conds, LineRefused>
 {
     match tokens.peek() {
         Some(Token::Bad) => Err(tokens.fail(UnknownWord(WordFault::Broken))),
-        _ => Err(tokens.fail(UnknownWord(WordFault::Unknown))),
+        _ => Err(tokens.fail(OtherWord(WordDue::When))),
     }
 }
 
@@ -118,7 +115,7 @@ fn grant_at(tokens: &mut Tokens) -> Result<Grant, LineRefused>
 {
     let due = tokens.copy();
     let word = word_or(UnknownWord(WordFault::Quoted), tokens)?;
-    or_fails(&due, UnknownWord(WordFault::Unknown), grant_of(word))
+    or_fails(&due, OtherWord(WordDue::Grant), grant_of(word))
 }
 
 // `grant GRANT "PATTERN"`, after its first word.
@@ -133,47 +130,44 @@ fn grant(alloc: Global, line: u32, tokens: &mut Tokens) -> Result<Rules, LineRef
 }
 
 // A heading has to precede the line.
-fn check_heading(draft: &Draft, line: &Tokens) -> Result<(), LineRefused>
-    ensures { Gives (unless_fails line.now NoHeading (is_headed draft.now)) result }
+fn check_heading(policies: &[Policy], line: &Tokens) -> Result<(), LineRefused>
+    ensures { Gives (unless_fails line.now NoHeading (is_headed policies.now)) result }
 {
-    if draft.is_headed() {
-        Ok(())
-    } else {
-        Err(line.fail(PolicyFaultKind::NoHeading))
+    match policies {
+        [] => Err(line.fail(PolicyFaultKind::NoHeading)),
+        _ => Ok(()),
     }
 }
 
-// Adds the rules of a grant to the last policy. After an error the policies are as they were.
+// Adds the rules of a grant to the last policy.
 fn add_grant(
     alloc: Global,
-    draft: &mut Draft,
+    policies: &mut PolicyList,
     number: u32,
     line: &Tokens,
     tokens: &mut Tokens,
 ) -> Result<(), LineRefused>
-    ensures read { Becomes (with_grant draft.old number line.now tokens.old) result draft.new }
-    ensures kept { OnErr result (draft.new ≡ draft.old) }
+    ensures { Becomes (with_grant policies.old number line.now tokens.old) result policies.new }
 {
-    check_heading(draft, line)?;
+    check_heading(policies.as_slice(), line)?;
     let rules = grant(alloc, number, tokens)?;
-    draft.add_rules(line, rules)
+    add_rules(policies, line, rules)
 }
 
-// Adds a rule to the last policy. After an error the policies are as they were.
+// Adds a rule to the last policy.
 fn add_rule(
     alloc: Global,
-    draft: &mut Draft,
+    policies: &mut PolicyList,
     number: u32,
     action: Action,
     line: &Tokens,
     tokens: &mut Tokens,
 ) -> Result<(), LineRefused>
-    ensures read { Becomes (with_rule draft.old number action line.now tokens.old) result draft.new }
-    ensures kept { OnErr result (draft.new ≡ draft.old) }
+    ensures { Becomes (with_rule policies.old number action line.now tokens.old) result policies.new }
 {
-    check_heading(draft, line)?;
+    check_heading(policies.as_slice(), line)?;
     let rules = rule(alloc, number, action, tokens)?;
-    draft.add_rules(line, rules)
+    add_rules(policies, line, rules)
 }
 
 // Why a first word is not known: `readonly` is, in a text of version 2.
@@ -183,32 +177,31 @@ fn first_word_fault(word: &[u8]) -> PolicyFaultKind
     if word == b"readonly".as_slice() {
         UnknownWord(WordFault::Misplaced)
     } else {
-        UnknownWord(WordFault::Unknown)
+        OtherWord(WordDue::Line)
     }
 }
 
-/// What a line adds to the policies so far. After an error they are as they were.
+/// What a line adds to the policies so far. After an error they are unspecified.
 #[tactic(auto, unfolding(crate::specs::Lines::line_of))]
 pub(crate) fn line_of(
     alloc: Global,
     version: u32,
-    draft: &mut Draft,
+    policies: &mut PolicyList,
     line: &Line,
 ) -> Result<(), LineRefused>
-    ensures read { Becomes (line_of version draft.old line.now.number (tokens_of line.now.text.now)) result draft.new }
-    ensures kept { OnErr result (draft.new ≡ draft.old) }
+    ensures { Becomes (line_of version policies.old line.now.number (tokens_of line.now.text.now)) result policies.new }
 {
     let first = line.tokens();
     let mut tokens = first.copy();
     let word = word_or(UnknownWord(WordFault::Quoted), &mut tokens)?;
-    if is_word(word, b"policy") {
-        return heading(alloc, draft, &first, &mut tokens);
+    if word == b"policy".as_slice() {
+        return heading(alloc, policies, &first, &mut tokens);
     }
-    if is_word(word, b"grant") {
-        return add_grant(alloc, draft, line.number, &first, &mut tokens);
+    if word == b"grant".as_slice() {
+        return add_grant(alloc, policies, line.number, &first, &mut tokens);
     }
     match action_of(version, word) {
-        Some(action) => add_rule(alloc, draft, line.number, action, &first, &mut tokens),
+        Some(action) => add_rule(alloc, policies, line.number, action, &first, &mut tokens),
         None => Err(first.fail(first_word_fault(word))),
     }
 }

@@ -93,12 +93,8 @@ fn put_notes_in(
     Ok(())
 }
 
-/// Appends the notes of a line.
-pub(crate) fn put_notes_on(
-    alloc: Global,
-    notes: &mut Vec<Note>,
-    line: &Line,
-) -> Result<(), NoMemory>
+// Appends the notes of a line.
+fn put_notes_on(alloc: Global, notes: &mut Vec<Note>, line: &Line) -> Result<(), NoMemory>
     requires { length line.now.text.now + 1 < 2 ^ 32 }
     ensures { OnOk result (notes.new.items ≡ notes.old.items
         ++ notes_on (record { number = line.now.number; text = line.now.text.now })) }

@@ -1,29 +1,18 @@
 // Reading policy texts.
-ghost use Rattle.std.specs.Prelude.{◌≡◌, ◌+◌, ◌<◌, ◌^◌, [], length};
-ghost use Rattle.sb_ruletext.specs.PolicyTexts.{grammar, policy_version, reading};
+ghost use Rattle.std.specs.Prelude.{◌≡◌, ◌+◌, ◌<◌, ◌^◌, [], length, IfOk};
+ghost use Rattle.sb_ruletext.specs.Notes.{notes_of};
+ghost use Rattle.sb_ruletext.specs.PolicyTexts.{grammar, reading};
 ghost use Rattle.sb_ruletext.specs.declared.faults.PolicyFaultKind.TheVariants.{BadVersion};
-ghost use Rattle.sb_base.specs.Refusals.{Gives, GivesAs};
+ghost use Rattle.sb_base.specs.Refusals.{GivesAs};
 ghost use Rattle.sb_text.specs.Tokens.{by_tokens};
 
-use crate::drafts::Draft;
 use crate::faults::{LineRefused, PolicyFaultKind, TextRefused};
 use crate::laws::read_policies_are_well_made;
 use crate::lines::line_of;
-use sb_rule::{Policies, WellMadePolicies};
+use crate::notes::{Note, read_notes};
+use sb_rule::{Policies, PolicyList, WellMadePolicies};
 use sb_text::{Layout, Line, Lines, TextGrammar, read_text, version_at};
 use std::alloc::Global;
-
-/// The version line: `sandbox-policy 1` or `sandbox-policy 2`.
-pub(crate) fn policy_version(line: &Line<'_>) -> Result<u32, LineRefused>
-    ensures { Gives (policy_version line.now.text.now) result }
-{
-    version_at(
-        PolicyFaultKind::BadVersion,
-        b"sandbox-policy",
-        2,
-        &line.tokens(),
-    )
-}
 
 // Policy texts.
 #[derive(Drop)]
@@ -32,7 +21,7 @@ struct PolicyGrammar {
 }
 
 impl<'b> TextGrammar<Lines<'b>> for PolicyGrammar {
-    type Draft = Draft;
+    type Draft = PolicyList;
 
     type Kind = PolicyFaultKind;
 
@@ -45,7 +34,12 @@ impl<'b> TextGrammar<Lines<'b>> for PolicyGrammar {
     }
 
     fn version(&self, line: &Line<'b>) -> Result<u32, LineRefused> {
-        policy_version(line)
+        version_at(
+            PolicyFaultKind::BadVersion,
+            b"sandbox-policy",
+            2,
+            &line.tokens(),
+        )
     }
 
     fn no_version(&self) -> PolicyFaultKind
@@ -54,13 +48,18 @@ impl<'b> TextGrammar<Lines<'b>> for PolicyGrammar {
         PolicyFaultKind::BadVersion
     }
 
-    fn start(&self) -> Draft
+    fn start(&self) -> PolicyList
         ensures { result ≡ [] }
     {
-        Draft::new(self.alloc)
+        PolicyList::empty(self.alloc)
     }
 
-    fn add(&self, version: u32, draft: &mut Draft, line: &Line<'b>) -> Result<(), LineRefused> {
+    fn add(
+        &self,
+        version: u32,
+        draft: &mut PolicyList,
+        line: &Line<'b>,
+    ) -> Result<(), LineRefused> {
         line_of(self.alloc, version, draft, line)
     }
 }
@@ -78,7 +77,23 @@ pub fn read_policies(alloc: Global, text: &[u8]) -> Result<WellMadePolicies, Tex
     ensures { GivesAs (λ policies. policies.list) (reading text.now) result }
 {
     read_policies_are_well_made();
-    let draft = read_text(&PolicyGrammar { alloc }, PolicyFaultKind::NotUtf8, text)?;
-    let list = draft.into_policies()?;
+    let list = read_text(&PolicyGrammar { alloc }, PolicyFaultKind::NotUtf8, text)?;
     Ok(WellMadePolicies::of(Policies { list }))
+}
+
+/// The policies of a text, which are well made, with the notes of the text; or its first fault. The text has fewer than 2^32 - 1 bytes.
+///
+/// # Errors
+/// As `read_policies`; and `NoMemory` also if there was none for the notes.
+pub fn read_noted_policies(
+    alloc: Global,
+    text: &[u8],
+) -> Result<(WellMadePolicies, Vec<Note>), TextRefused>
+    requires { length text.now + 1 < 2 ^ 32 }
+    ensures policies { GivesAs (λ r. r.0.list) (reading text.now) result }
+    ensures notes { IfOk result (λ r. r.1.items ≡ notes_of text.now) }
+{
+    let policies = read_policies(alloc, text)?;
+    let notes = read_notes(alloc, text)?;
+    Ok((policies, notes))
 }

@@ -114,14 +114,26 @@ fn put_not(text: &mut Vec<u8>, negated: bool) -> Result<(), NoMemory>
     Ok(())
 }
 
-fn put_cond(text: &mut Vec<u8>, joint: &[u8], tag: CallTag, cond: &Cond) -> Result<(), NoMemory>
+/// Appends a condition of a rule for this call as policies print it, with a space before each token. What it has read of the condition is in the ranges of
+/// its types.
+///
+/// # Errors
+/// `NoMemory` if there is none for it; then a part may have been appended.
+pub fn put_cond(text: &mut Vec<u8>, tag: CallTag, cond: &Cond) -> Result<(), NoMemory>
+    ensures text { OnOk result (text.new.items ≡ text.old.items ++ spaced (cond_tokens tag cond.now)) }
+    ensures values { OnOk result (is_test_of_values cond.now.test ≡ true) }
+{
+    put_not(text, cond.negated)?;
+    put_word(text, parameter_word(tag, cond.param))?;
+    put_test(text, &cond.test)
+}
+
+fn put_joined(text: &mut Vec<u8>, joint: &[u8], tag: CallTag, cond: &Cond) -> Result<(), NoMemory>
     ensures text { OnOk result (text.new.items ≡ text.old.items ++ spaced (joined_tokens joint.now tag cond.now)) }
     ensures values { OnOk result (is_test_of_values cond.now.test ≡ true) }
 {
     put_word(text, joint)?;
-    put_not(text, cond.negated)?;
-    put_word(text, parameter_word(tag, cond.param))?;
-    put_test(text, &cond.test)
+    put_cond(text, tag, cond)
 }
 
 fn put_more_conds(text: &mut Vec<u8>, tag: CallTag, conds: &[Cond]) -> Result<(), NoMemory>
@@ -129,7 +141,7 @@ fn put_more_conds(text: &mut Vec<u8>, tag: CallTag, conds: &[Cond]) -> Result<()
     ensures values { OnOk result (list_all (λ cond. is_test_of_values cond.test) conds.now ≡ true) }
 {
     for cond in conds {
-        put_cond(text, b"and", tag, cond)?;
+        put_joined(text, b"and", tag, cond)?;
     }
     Ok(())
 }
@@ -141,7 +153,7 @@ fn put_conds(text: &mut Vec<u8>, tag: CallTag, conds: &[Cond]) -> Result<(), NoM
     let Some((first, more)) = conds.split_first() else {
         return Ok(());
     };
-    put_cond(text, b"when", tag, first)?;
+    put_joined(text, b"when", tag, first)?;
     put_more_conds(text, tag, more)
 }
 

@@ -1,12 +1,13 @@
 -- The arguments that are read for a call fit it.
 use Rattle.std.proofs.Common.{◌≡◌, refl, subst, List, [], ◌∷◌, true, Ok}
+use Rattle.std.proofs.lemmas.Bool.{and_from}
 use Rattle.sb_call.specs.Arguments.{fits_kind, fit}
 use Rattle.sb_call.specs.Tags.{shape_of}
 use Rattle.sb_call.specs.declared.arguments.Arg.{Arg}
 use Rattle.sb_call.specs.declared.arguments.Arg.TheVariants as arg
 use Rattle.sb_call.specs.declared.tags.ParamKind.{ParamKind}
 use Rattle.sb_call.specs.declared.tags.ParamKind.TheVariants.{Text, Name, Num, Handle}
-use Rattle.sb_scripttext.proofs.Sound.{both, made, ok_same, in_range, below_32, named_well}
+use Rattle.sb_scripttext.proofs.Sound.{made, ok_same, in_range, below_32, named_well}
 use Rattle.sb_scripttext.specs.Arguments.{most_32, arg_at, args_at}
 use Rattle.sb_scripttext.specs.Laws.{ReadArgumentsFit}
 use Rattle.sb_scripttext.specs.Steps.{number_at, number_within, string_at, name_at}
@@ -38,7 +39,7 @@ args_fit (kind ∷ kinds) tokens x h =
     let a = made (arg_at kind tokens) (λ first. args_at kinds first.1 >>= λ others. Ok (first.0 ∷ others.0, others.1)) x h in
     let o = made (args_at kinds a.0.1) (λ others. Ok (a.0.0 ∷ others.0, others.1)) x a.2 in
     subst (λ (y : List Arg × Lexemes). fit (kind ∷ kinds) y.0 ≡ true) (ok_same (a.0.0 ∷ o.0.0, o.0.1) x o.2)
-    (both _ _ (arg_fits kind tokens a.0 a.1) (args_fit kinds a.0.1 o.0 o.1))
+    (and_from _ _ (arg_fits kind tokens a.0 a.1) (args_fit kinds a.0.1 o.0 o.1))
 
 pub read_arguments_fit : ReadArgumentsFit
 read_arguments_fit tag tokens rest args h = args_fit (shape_of tag) tokens (args, rest) h

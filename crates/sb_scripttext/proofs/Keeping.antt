@@ -2,7 +2,7 @@
 use Rattle.std.proofs.Common.{◌≡◌, ℕ, Bool, true, ◌&&◌, List, [], ◌∷◌, length, refl}
 use Rattle.std.specs.Prelude.{Ok, is_ok}
 use Rattle.std.specs.List.{list_all}
-use Rattle.std.proofs.lemmas.Bool.{and_parts}
+use Rattle.std.proofs.lemmas.Bool.{and_parts, and_from}
 use Rattle.sb_book.specs.Readiness.{is_judged, is_ready}
 use Rattle.sb_call.specs.ShortNames.{is_short_name}
 use Rattle.sb_kernel.specs.Openings.{opened}
@@ -16,15 +16,12 @@ use Rattle.sb_scripttext.specs.Readiness.{ReadScriptsAreReady}
 use Rattle.sb_scripttext.specs.ScriptTexts.{reading}
 use Rattle.sb_scripttext.specs.Writable.{is_writable_start, is_writable_target, is_writable_thread}
 
-both : (a b : Bool) → a ≡ true → b ≡ true → (a && b) ≡ true
-both a b ha hb = rw (ha, hb) refl
-
 -- targets that can be written have short names
 short_each : (targets : List TargetScript) → list_all is_writable_target targets ≡ true → list_all has_short_name targets ≡ true
 short_each [] h = refl
 short_each (target ∷ targets) h =
     let parts = and_parts (is_writable_target target) (list_all is_writable_target targets) h in
-    both (has_short_name target) (list_all has_short_name targets)
+    and_from (has_short_name target) (list_all has_short_name targets)
     (and_parts (is_short_name target.name) (list_all is_writable_thread target.threads) parts.0).0 (short_each targets parts.1)
 
 -- a script that is ready is sound

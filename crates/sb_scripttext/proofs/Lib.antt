@@ -1,4 +1,3 @@
-pub mod Built
 pub mod Fitting
 pub mod Keeping
 pub mod LastChanged

@@ -1,6 +1,6 @@
 -- The actors of what is read have numbers of 32 bits, and each makes at least one step.
 use Rattle.std.proofs.Common.{◌≡◌, refl, subst, ℕ, ◌^◌, ◌==◌, List, [], ◌∷◌, Bool, true, false, ◌&&◌, nat_le, nat_lt, cond, length, Option, None, Some, Result, Ok, Err}
-use Rattle.std.proofs.lemmas.Bool.{and_parts}
+use Rattle.std.proofs.lemmas.Bool.{and_parts, and_from}
 use Rattle.sb_scripttext.specs.Actors.{number_32, worker_at, thread_at, thread_named, actor_named, where_there, actor_of}
 use Rattle.std.specs.List.{before_first, after_first}
 use Rattle.sb_scripttext.specs.Actors.{is_dot}
@@ -9,7 +9,7 @@ use Rattle.sb_scripttext.specs.ScheduleLines.{any_word_at, within, last_number, 
 use Rattle.sb_scripttext.specs.SchedulePrinting.{is_actor_of_values, is_made}
 use Rattle.sb_base.specs.Numbers.{is_word32}
 use Rattle.sb_scripttext.specs.declared.schedule_faults.ScheduleKind.{ScheduleKind}
-use Rattle.sb_scripttext.specs.declared.schedule_faults.ScheduleKind.TheVariants.{UnknownWord, UnknownActor, BadNumber}
+use Rattle.sb_scripttext.specs.declared.schedule_faults.ScheduleKind.TheVariants.{UnknownWord, UnknownActor, BadNumber, OutOfRange}
 use Rattle.sb_statements.specs.Actors.{is_there}
 use Rattle.sb_statements.specs.declared.schedules.Actor.{Actor}
 use Rattle.sb_statements.specs.declared.schedules.Actor.TheVariants.{Worker, Thread}
@@ -18,7 +18,6 @@ use Rattle.sb_text.specs.Numbers.{decimal_of, number_of}
 use Rattle.sb_text.specs.Steps.{◌>>=◌, at_token, end_at, is_end, or_fails}
 use Rattle.sb_text.specs.Tokens.{Lexemes}
 use Rattle.sb_text.specs.declared.refusals.WordFault.TheVariants.{Broken, Extra}
-use Rattle.sb_scripttext.proofs.ScheduleConjunctions.{and_true}
 use Rattle.sb_scripttext.proofs.PrintedActors.{below_2_32}
 use Rattle.sb_scripttext.proofs.PassingSchedules.{at_made, made, ok_same, passed, was_there}
 
@@ -42,7 +41,7 @@ thread_small : (target thread : Option ℕ) (actor : Actor) → ((n : ℕ) → t
 thread_small None thread actor f g h = absurd cc
 thread_small (Some t) None actor f g h = absurd cc
 thread_small (Some t) (Some k) actor f g h =
-    let same : Thread t k ≡ actor = cc in subst (λ a. is_actor_of_values a ≡ true) same (and_true _ _ (f t refl) (g k refl))
+    let same : Thread t k ≡ actor = cc in subst (λ a. is_actor_of_values a ≡ true) same (and_from _ _ (f t refl) (g k refl))
 
 named_small : (word : List ℕ) (actor : Actor) → actor_named word ≡ Some actor → is_actor_of_values actor ≡ true
 named_small [] actor h = absurd cc
@@ -69,10 +68,10 @@ actor_small targets word actor h = by_name (actor_named word) (named_small word)
 within_least : (lo hi : ℕ) (word : List ℕ) (n : ℕ) → within lo hi word ≡ Ok n → nat_le lo n ≡ true
 within_least lo hi word n h = by_number (number_of word) h
   where
-    by_number : (m : Option ℕ) → ◌≡◌ {A = Result ℕ ScheduleKind} (elim m [ None ↦ Err BadNumber | Some m ↦ cond (nat_le lo m && nat_le m hi) (Ok m) (Err BadNumber) ]) (Ok n) → nat_le lo n ≡ true
+    by_number : (m : Option ℕ) → ◌≡◌ {A = Result ℕ ScheduleKind} (elim m [ None ↦ Err BadNumber | Some m ↦ cond (nat_le lo m && nat_le m hi) (Ok m) (Err (OutOfRange lo hi)) ]) (Ok n) → nat_le lo n ≡ true
     by_number None h = absurd cc
     by_number (Some m) h =
-        let t = passed (nat_le lo m && nat_le m hi) m n BadNumber h in
+        let t = passed (nat_le lo m && nat_le m hi) m n (OutOfRange lo hi) h in
         subst (λ k. nat_le lo k ≡ true) t.1 (and_parts (nat_le lo m) (nat_le m hi) t.0).0
 
 last_least : (lo hi : ℕ) (words : Lexemes) (n : ℕ) → last_number lo hi words ≡ Ok n → nat_le lo n ≡ true
@@ -96,4 +95,4 @@ step_made targets words s h =
     let a = made (or_fails words UnknownActor (actor_of targets w.0.0)) (λ actor. count_at w.0.1 >>= λ n. Ok (actor, n)) s w.2 in
     let n = made (count_at w.0.1) (λ n. Ok (a.0, n)) s a.2 in
     subst (λ x. is_made x ≡ true) (ok_same (a.0, n.0) s n.2)
-    (and_true _ _ (actor_small targets w.0.0 a.0 (was_there words UnknownActor (actor_of targets w.0.0) a.0 a.1)) (count_least w.0.1 n.0 n.1))
+    (and_from _ _ (actor_small targets w.0.0 a.0 (was_there words UnknownActor (actor_of targets w.0.0) a.0 a.1)) (count_least w.0.1 n.0 n.1))

@@ -6,14 +6,14 @@ use Rattle.sb_statements.specs.Soundness.{channels_of}
 use Rattle.sb_statements.specs.declared.scripts.Script.{Script}
 use Rattle.sb_statements.specs.declared.scripts.TargetScript.{TargetScript}
 use Rattle.sb_rule.specs.declared.policies.Policy.{Policy}
-use Rattle.sb_scripttext.specs.SoFar.{SoFar}
+use Rattle.sb_scripttext.specs.declared.drafts.Draft.{Draft}
 use Rattle.sb_scripttext.specs.Laws.{is_looked_for_last, FirstFaultsStay}
 use Rattle.sb_scripttext.specs.ScriptTexts.{Absence, ScriptFault, with_number, absence_fault, no_channel, no_target, grammar, first_absence, from_place, script_of, finished, reading}
 use Rattle.sb_text.specs.MissingTexts.{line_or_empty}
 use Rattle.sb_text.specs.Steps.{◌>>=◌}
 use Rattle.sb_scripttext.specs.declared.drafts.Named.{Named}
 use Rattle.sb_scripttext.specs.declared.faults.ScriptKind.{ScriptKind}
-use Rattle.sb_scripttext.specs.declared.faults.ScriptKind.TheVariants.{NotUtf8, UnknownWord, UnknownCall, WrongArgs, BadNumber, BadName, NoSuchPolicy, NoSuchTarget, NoSuchChannel, NoSuchWord, TooMany, TooBig, SameName, BadStart}
+use Rattle.sb_scripttext.specs.declared.faults.ScriptKind.TheVariants.{NotUtf8, UnknownWord, UnknownCall, WrongArgs, BadNumber, OutOfRange, BadName, NoSuchPolicy, NoSuchTarget, NoSuchChannel, NoSuchWord, TooMany, TooBig, SameName, BadStart}
 use Rattle.sb_text.specs.LineLaws.{ended}
 use Rattle.sb_text.specs.Lines.{lines_of}
 use Rattle.sb_text.specs.ReadingLaws as laws
@@ -56,6 +56,7 @@ with_number_last words (UnknownWord why) h = h
 with_number_last words UnknownCall h = h
 with_number_last words (WrongArgs why) h = h
 with_number_last words BadNumber h = h
+with_number_last words (OutOfRange low high) h = h
 with_number_last words BadName h = h
 with_number_last words NoSuchPolicy h = h
 with_number_last words NoSuchWord h = h
@@ -64,7 +65,7 @@ with_number_last words TooBig h = h
 with_number_last words SameName h = h
 with_number_last words (BadStart why) h = h
 
-finished_last : (text : List ℕ) (sofar : SoFar) (fault : ScriptFault) → finished text sofar ≡ Err fault → is_looked_for_last fault.kind ≡ true
+finished_last : (text : List ℕ) (sofar : Draft) (fault : ScriptFault) → finished text sofar ≡ Err fault → is_looked_for_last fault.kind ≡ true
 finished_last text sofar fault h = by_absence (first_absence sofar.targets sofar.named) (absent_last sofar.targets sofar.named) h
   where
     same_last : (a b : ScriptFault) → ◌≡◌ {A = Result Script ScriptFault} (Err a) (Err b) → is_looked_for_last b.kind ≡ is_looked_for_last a.kind
@@ -80,18 +81,18 @@ abbrev fault_in : {A : Type 0} → Result A ScriptFault → Option ScriptFault
 fault_in (Ok x) = None
 fault_in (Err fault) = Some fault
 
-abbrev refused : Option ScriptFault → Result SoFar ScriptFault → Result SoFar ScriptFault
+abbrev refused : Option ScriptFault → Result Draft ScriptFault → Result Draft ScriptFault
 refused None other = other
 refused (Some fault) other = Err fault
 
 -- a fault is one of the lines, or one that is looked for last
-of_lines : (text : List ℕ) (read : Result SoFar ScriptFault) (fault : ScriptFault) → is_looked_for_last fault.kind ≡ false → (read >>= λ sofar. finished text sofar) ≡ Err fault → read ≡ Err fault
+of_lines : (text : List ℕ) (read : Result Draft ScriptFault) (fault : ScriptFault) → is_looked_for_last fault.kind ≡ false → (read >>= λ sofar. finished text sofar) ≡ Err fault → read ≡ Err fault
 of_lines text (Ok sofar) fault k e = absurd (false≢true (sym k ∙ finished_last text sofar fault e))
 of_lines text (Err other) fault k e = ap (λ absent. refused absent (Err other)) (ap fault_in e)
 
-pub first_faults_stay : laws.FirstFaultsStay SoFar ScriptKind → FirstFaultsStay
+pub first_faults_stay : laws.FirstFaultsStay Draft ScriptKind → FirstFaultsStay
 first_faults_stay law policies front rest other fault u v s l k e =
     read_by_lines policies (ended front ++ other) v
-    ∙ ap (λ (read : Result SoFar ScriptFault). read >>= λ sofar. finished (ended front ++ other) sofar)
+    ∙ ap (λ (read : Result Draft ScriptFault). read >>= λ sofar. finished (ended front ++ other) sofar)
     (law (grammar policies) front rest other fault s l
     (of_lines (ended front ++ rest) (read_by (grammar policies) (lines_of (ended front ++ rest))) fault k (sym (read_by_lines policies (ended front ++ rest) u) ∙ e)))

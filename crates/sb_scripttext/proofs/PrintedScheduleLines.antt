@@ -1,11 +1,11 @@
 -- Lines of plain words, as lines of tokens.
 use Rattle.std.proofs.Common.{◌≡◌, ◌∙◌, ℕ, Bool, true, List, [], ◌∷◌, ◌++◌, map, ap, refl}
+use Rattle.std.proofs.lemmas.Bool.{and_from, and_parts}
 use Rattle.std.specs.List.{flat_map, list_all}
 use Rattle.sb_text.specs.Lines.{NumberedLine, lines_of}
 use Rattle.sb_text.specs.PlainLines as plain
 use Rattle.sb_text.specs.PlainLines.{PlainLinesAreRead, words_text}
 use Rattle.sb_text.specs.Tokens.{Lexeme, Word}
-use Rattle.sb_scripttext.proofs.ScheduleConjunctions.{both, and_true}
 
 -- a word of printable ASCII after `#`
 abbrev pub is_plain : List ℕ → Bool
@@ -29,7 +29,7 @@ as_tokens (words ∷ lines) = ap (λ rest. words_text words ++ rest) (as_tokens 
 
 are_plain : (lines : List (List (List ℕ))) → list_all is_plain_line lines ≡ true → list_all plain.is_plain_line (tokens_of_lines lines) ≡ true
 are_plain [] h = refl
-are_plain (words ∷ lines) h = and_true _ _ (both _ _ h).0 (are_plain lines (both _ _ h).1)
+are_plain (words ∷ lines) h = and_from _ _ (and_parts _ _ h).0 (are_plain lines (and_parts _ _ h).1)
 
 -- the text of plain lines has these lines
 pub lines_back : PlainLinesAreRead → (lines : List (List (List ℕ))) → list_all is_plain_line lines ≡ true → lines_of (flat_map words_text lines) ≡ numbered 1 lines

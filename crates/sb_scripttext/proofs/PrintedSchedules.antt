@@ -1,5 +1,6 @@
 -- The text of a schedule is read as this schedule.
 use Rattle.std.proofs.Common.{◌≡◌, ◌∙◌, ℕ, suc, ◌+◌, ◌≤◌, nat_le, true, cond, List, [], ◌∷◌, ◌++◌, Some, None, Option, Ok, Err, Result, length, map, ap, refl, subst, sym, arith}
+use Rattle.std.proofs.lemmas.Bool.{and_from, and_parts}
 use Rattle.std.specs.Fmt.{decimal}
 use Rattle.std.specs.List.{list_all}
 use Rattle.std.specs.Prelude.{codes}
@@ -29,7 +30,6 @@ use Rattle.sb_text.specs.declared.refusals.TokenFault.{TokenFault}
 use Rattle.sb_text.specs.declared.refusals.WordFault.TheVariants.{Broken, Extra, NoVersion}
 use Rattle.sb_text.specs.PlainLines.{PlainLinesAreRead, PlainWordsAreRead, words_line}
 use Rattle.sb_scripttext.proofs.ScheduleBounds.{actors_are_there, actors_make_steps, steps_are_counted, rounds_are_counted}
-use Rattle.sb_scripttext.proofs.ScheduleConjunctions.{both, and_true}
 use Rattle.sb_scripttext.proofs.ScheduleCounts.{one_more}
 use Rattle.sb_scripttext.proofs.PrintedActors.{actor_plain, actor_read, decimal_plain, within_back}
 use Rattle.sb_scripttext.proofs.PrintedScheduleLines.{is_plain_line, numbered, lines_back}
@@ -64,7 +64,7 @@ ended due read = at_token due read >>= λ n. end_at (UnknownWord Extra) (Unknown
 count_read : DecimalsAreRead → (n : ℕ) → nat_le 1 n ≡ true → n ≤ 100000 → count_at (words_at (decimal n ∷ [])) ≡ Ok n
 count_read law n one most =
     ap (ended (words_at (decimal n ∷ [])))
-    (within_back law 1 most_steps n (omega (arith, most)) (and_true (nat_le 1 n) (nat_le n most_steps) one (at_most n most_steps most)))
+    (within_back law 1 most_steps n (omega (arith, most)) (and_from (nat_le 1 n) (nat_le n most_steps) one (at_most n most_steps most)))
 
 least : (n : ℕ) → nat_le 0 n ≡ true
 least n = grind (arith, nat_tests)
@@ -72,7 +72,7 @@ least n = grind (arith, nat_tests)
 rounds_read : DecimalsAreRead → (n : ℕ) → n ≤ 20000000 → last_number 0 most_rounds (words_at (decimal n ∷ [])) ≡ Ok n
 rounds_read law n most =
     ap (ended (words_at (decimal n ∷ [])))
-    (within_back law 0 most_rounds n (omega (arith, most)) (and_true (nat_le 0 n) (nat_le n most_rounds) (least n) (at_most n most_rounds most)))
+    (within_back law 0 most_rounds n (omega (arith, most)) (and_from (nat_le 0 n) (nat_le n most_rounds) (least n) (at_most n most_rounds most)))
 
 -- an actor and its count
 
@@ -94,7 +94,7 @@ unfolding line_of line_by
 step_line law targets done s there made most few =
     let last = words_at (decimal s.1 ∷ []) in
     ap (λ (read : Result (Actor × ℕ) (TokenFault ScheduleKind)). read >>= λ s. at_token last (with_step (drafted done) s))
-    (step_read law targets s.0 s.1 there (both _ _ made).0 (both _ _ made).1 most)
+    (step_read law targets s.0 s.1 there (and_parts _ _ made).0 (and_parts _ _ made).1 most)
     ∙ ap (at_token last) (room done s few)
 
 rounds_line : DecimalsAreRead → (targets : List TargetScript) (steps : List (Actor × ℕ)) (n : ℕ) → n ≤ 20000000
@@ -103,10 +103,10 @@ unfolding line_of line_by
 rounds_line law targets steps n most = ap (λ (read : Result ℕ (TokenFault ScheduleKind)). read >>= λ n. Ok (told steps n)) (rounds_read law n most)
 
 step_plain : DecimalsAreRead → (s : Actor × ℕ) → is_made s ≡ true → s.1 ≤ 100000 → is_plain_line (step_words s) ≡ true
-step_plain law s made most = and_true _ _ (actor_plain law s.0 (both _ _ made).0) (and_true _ _ (decimal_plain law s.1 (omega (arith, most))) refl)
+step_plain law s made most = and_from _ _ (actor_plain law s.0 (and_parts _ _ made).0) (and_from _ _ (decimal_plain law s.1 (omega (arith, most))) refl)
 
 rounds_plain : DecimalsAreRead → (n : ℕ) → n ≤ 20000000 → is_plain_line (rounds_words n) ≡ true
-rounds_plain law n most = and_true _ _ (decimal_plain law n (omega (arith, most))) refl
+rounds_plain law n most = and_from _ _ (decimal_plain law n (omega (arith, most))) refl
 
 -- a line is read, and then those after it
 line_read : Laws → (targets : List TargetScript) (draft more : Drafted) (n : ℕ) (words : List (List ℕ)) (lines : List (List (List ℕ))) → is_plain_line words ≡ true
@@ -131,9 +131,9 @@ steps_read laws targets done n (s ∷ steps) lines there made few =
     let within : step_count done + s.1 ≤ 100000 = omega (arith, few, sum) in
     let after : step_count (done ++ s ∷ []) + step_count steps ≤ 100000 = omega (arith, few, sum, more) in
     line_read laws targets (drafted done) (drafted (done ++ s ∷ [])) n (step_words s) (map step_words steps ++ lines)
-    (step_plain laws.numbers s (both _ _ made).0 most)
-    (step_line laws.numbers targets done s (both _ _ there).0 (both _ _ made).0 most (at_most (step_count done + s.1) most_steps within))
-    ∙ steps_read laws targets (done ++ s ∷ []) (n + 1) steps lines (both _ _ there).1 (both _ _ made).1 after
+    (step_plain laws.numbers s (and_parts _ _ made).0 most)
+    (step_line laws.numbers targets done s (and_parts _ _ there).0 (and_parts _ _ made).0 most (at_most (step_count done + s.1) most_steps within))
+    ∙ steps_read laws targets (done ++ s ∷ []) (n + 1) steps lines (and_parts _ _ there).1 (and_parts _ _ made).1 after
     ∙ ap (λ all. read_lines (grammar targets) 1 (drafted all) (numbered (n + 1 + length steps) lines)) (append_assoc done (s ∷ []) steps)
     ∙ ap (λ m. read_lines (grammar targets) 1 (drafted (done ++ s ∷ steps)) (numbered m lines)) {x = n + 1 + length steps} {y = n + suc (length steps)} (omega arith)
 
@@ -141,7 +141,7 @@ steps_plain : DecimalsAreRead → (steps : List (Actor × ℕ)) → list_all is_
 steps_plain law [] made few = refl
 steps_plain law (s ∷ steps) made few =
     let sum = sum_by-cons (λ (s : Actor × ℕ). s.1) s steps in
-    and_true _ _ (step_plain law s (both _ _ made).0 (omega (arith, few, sum))) (steps_plain law steps (both _ _ made).1 (omega (arith, few, sum)))
+    and_from _ _ (step_plain law s (and_parts _ _ made).0 (omega (arith, few, sum))) (steps_plain law steps (and_parts _ _ made).1 (omega (arith, few, sum)))
 
 -- all lines below the first
 body_read : Laws → (targets : List TargetScript) (steps : List (Actor × ℕ)) (n : ℕ) → list_all (is_step_there targets) steps ≡ true → list_all is_made steps ≡ true
@@ -156,7 +156,7 @@ lines_plain : DecimalsAreRead → (schedule : Schedule) → list_all is_made sch
     → list_all is_plain_line (schedule_lines schedule) ≡ true
 lines_plain law schedule made few most =
     list_all-append is_plain_line (map step_words schedule.steps) (rounds_words schedule.rounds ∷ [])
-    ∙ and_true _ _ (steps_plain law schedule.steps made few) (and_true _ _ (rounds_plain law schedule.rounds most) refl)
+    ∙ and_from _ _ (steps_plain law schedule.steps made few) (and_from _ _ (rounds_plain law schedule.rounds most) refl)
 
 pub written_read : Laws → WrittenSchedulesAreRead
 written_read laws targets schedule there made few most =
@@ -176,11 +176,11 @@ one_each actors = map (λ actor. (actor, 1)) actors
 
 each_there : (targets : List TargetScript) (actors : List Actor) → list_all (is_there targets) actors ≡ true → list_all (is_step_there targets) (one_each actors) ≡ true
 each_there targets [] h = refl
-each_there targets (actor ∷ actors) h = and_true _ _ (both _ _ h).0 (each_there targets actors (both _ _ h).1)
+each_there targets (actor ∷ actors) h = and_from _ _ (and_parts _ _ h).0 (each_there targets actors (and_parts _ _ h).1)
 
 pub each_made : (actors : List Actor) → list_all is_actor_of_values actors ≡ true → list_all is_made (one_each actors) ≡ true
 each_made [] h = refl
-each_made (actor ∷ actors) h = and_true _ _ (and_true (is_actor_of_values actor) (nat_le 1 1) (both _ _ h).0 refl) (each_made actors (both _ _ h).1)
+each_made (actor ∷ actors) h = and_from _ _ (and_from (is_actor_of_values actor) (nat_le 1 1) (and_parts _ _ h).0 refl) (each_made actors (and_parts _ _ h).1)
 
 one_more_step : (n : ℕ) → 1 + n ≡ suc n
 one_more_step n = omega arith

@@ -1,6 +1,6 @@
 -- A script that is read can be written.
 use Rattle.std.proofs.Common.{◌≡◌, refl, ap, subst, ℕ, ◌^◌, ◌==◌, List, [], ◌∷◌, ◌++◌, Bool, true, false, not, ◌&&◌, cond, length, nat_le, nat_lt, Option, None, Some, Result, Ok, Err, codes}
-use Rattle.std.proofs.lemmas.Bool.{and_parts}
+use Rattle.std.proofs.lemmas.Bool.{and_parts, and_from}
 use Rattle.std.proofs.lemmas.Str.{IsUtf8-from_is_utf8}
 use Rattle.std.specs.List.{list_all, list_any}
 use Rattle.std.specs.Str.{is_utf8}
@@ -25,10 +25,11 @@ use Rattle.sb_statements.specs.declared.statements.Statement.TheVariants.{Call, 
 use Rattle.sb_text.specs.Strings.{QuotedStringsAreText, is_text}
 use Rattle.sb_scripttext.proofs.LastChanged.{changed_all}
 use Rattle.sb_scripttext.proofs.Ready.{all_more, on_this, start_made}
-use Rattle.sb_scripttext.proofs.Sound.{at_made, both, made, ok_same, passed, branches}
+use Rattle.sb_scripttext.proofs.Sound.{at_made, made, ok_same, passed, branches}
 use Rattle.sb_scripttext.specs.Arguments.{most_32, tag_at, arg_at, args_at, fitting, call}
 use Rattle.sb_scripttext.specs.StartFaults.{start_fault}
-use Rattle.sb_scripttext.specs.SoFar.{SoFar, nothing, change_last, is_opening, is_in_thread, with_patience, with_start, with_target, one_thread_more, with_thread, one_statement_more, in_last_thread, named_by, statement_at, with_statement}
+use Rattle.sb_scripttext.specs.Drafts.{nothing, change_last, is_opening, is_in_thread, with_patience, with_start, with_target, one_thread_more, with_thread, one_statement_more, in_last_thread, named_by, statement_at, with_statement}
+use Rattle.sb_scripttext.specs.declared.drafts.Draft.{Draft}
 use Rattle.sb_scripttext.specs.Lines.{is_target_named, new_name, new_name_at, policy_at, heading, patience, set_patience, add_target, add_thread, at_start, misplaced, not_here, start_line, statement_line, plain_line, line_of}
 use Rattle.sb_scripttext.specs.Openings.{can_place, dir, file, key, event}
 use Rattle.sb_scripttext.specs.Readiness.{ReadScriptsHaveUnits}
@@ -39,7 +40,7 @@ use Rattle.sb_scripttext.specs.Writable.{is_writable_start, is_writable_arg, is_
 use Rattle.sb_base.specs.Numbers.{is_word64}
 use Rattle.sb_scripttext.specs.WritingLaws.{ReadScriptsCanBeWritten}
 use Rattle.sb_scripttext.specs.declared.faults.ScriptKind.{ScriptKind}
-use Rattle.sb_scripttext.specs.declared.faults.ScriptKind.TheVariants.{NotUtf8, UnknownWord, UnknownCall, WrongArgs, BadNumber, BadName, SameName, TooBig, TooMany, BadStart}
+use Rattle.sb_scripttext.specs.declared.faults.ScriptKind.TheVariants.{NotUtf8, UnknownWord, UnknownCall, WrongArgs, BadNumber, OutOfRange, BadName, SameName, TooBig, TooMany, BadStart}
 use Rattle.sb_text.specs.Lines.{NumberedLine, lines_of}
 use Rattle.sb_text.specs.Numbers.{is_decimal_digit, is_hexadecimal_digit, value_from, below_2_64, are_digits, decimal_of, hexadecimal_of, number_of}
 use Rattle.sb_text.specs.Readings.{on_line, read_lines, read_by, where_utf8, read_text}
@@ -132,7 +133,7 @@ unfolding number_within
 within_fine lo hi quoted missing tokens x h t =
     let n = made (number_at quoted missing tokens) (λ n. at_token tokens (within lo hi n.0) >>= λ number. Ok (number, n.1)) x h in
     let m = made (at_token tokens (within lo hi n.0.0)) (λ number. Ok (number, n.0.1)) x n.2 in
-    let p = passed (nat_le lo n.0.0 && nat_le n.0.0 hi) n.0.0 m.0 BadNumber (at_made tokens (within lo hi n.0.0) m.0 m.1) in
+    let p = passed (nat_le lo n.0.0 && nat_le n.0.0 hi) n.0.0 m.0 (OutOfRange lo hi) (at_made tokens (within lo hi n.0.0) m.0 m.1) in
     let fine = number_fine quoted missing tokens n.0 n.1 t in
     subst IsRead {x = (m.0, n.0.1)} (ok_same (m.0, n.0.1) x m.2)
     (record { number = subst (λ n. is_word64 n ≡ true) p.1 fine.number; rest = fine.rest })
@@ -150,7 +151,7 @@ quoted_are_text : QuotedStringsAreText → QuotedAreText
 quoted_are_text law q h =
     let parts = and_parts (is_utf8 q) (list_all is_quoted_byte q) h in
     let text = law q (IsUtf8-from_is_utf8 q parts.0) parts.1 in
-    both _ _ text.0 text.1
+    and_from _ _ text.0 text.1
 
 quoted_fine : QuotedAreText → (word bad missing : ScriptKind) (tokens : Lexemes) (x : List ℕ × Lexemes) → quoted_at word bad missing tokens ≡ Ok x
     → AreText tokens → IsString (string_of x.0, x.1)
@@ -211,7 +212,7 @@ args_fine law (kind ∷ kinds) tokens x h t =
     let o = made (args_at kinds a.0.1) (λ others. Ok (a.0.0 ∷ others.0, others.1)) x a.2 in
     let fine = arg_fine law kind tokens a.0 a.1 t in
     subst (λ (y : List Arg × Lexemes). list_all is_writable_arg y.0 ≡ true) (ok_same (a.0.0 ∷ o.0.0, o.0.1) x o.2)
-    (both _ _ fine.writable (args_fine law kinds a.0.1 o.0 o.1 fine.rest))
+    (and_from _ _ fine.writable (args_fine law kinds a.0.1 o.0 o.1 fine.rest))
 
 tag_rest : (tokens : Lexemes) (x : CallTag × Lexemes) → tag_at tokens ≡ Ok x → AreText tokens → AreText x.1
 unfolding tag_at
@@ -308,7 +309,7 @@ exchange_fine tokens statement h =
     let e = made (end_at (WrongArgs Extra) (UnknownWord Broken) t.0.1) (λ end. Ok (Exchange w.0.0.0 w.0.0.1 f.0.0 t.0.0)) statement t.2 in
     subst (λ statement. is_writable_statement statement ≡ true) {x = Exchange w.0.0.0 w.0.0.1 f.0.0 t.0.0}
     (ok_same (Exchange w.0.0.0 w.0.0.1 f.0.0 t.0.0) statement e.2)
-    (both _ _ (value_fine w.0.1 f.0 f.1) (value_fine f.0.1 t.0 t.1))
+    (and_from _ _ (value_fine w.0.1 f.0 f.1) (value_fine f.0.1 t.0 t.1))
 
 load_fine : (tokens : Lexemes) → States (load tokens)
 unfolding load
@@ -342,19 +343,19 @@ statement_fine law w line tokens text =
 -- what is so far there
 
 -- what was read so far can be written
-record IsWritable (sofar : SoFar) : Type 0 where
+record IsWritable (sofar : Draft) : Type 0 where
   starts : list_all is_writable_start sofar.start ≡ true
   targets : list_all is_writable_target sofar.targets ≡ true
 
 -- and it can of what is there with one more part
-abbrev Gains : Result SoFar ScriptKind → Type 0
-Gains read = (new : SoFar) → read ≡ Ok new → IsWritable new
+abbrev Gains : Result Draft ScriptKind → Type 0
+Gains read = (new : Draft) → read ≡ Ok new → IsWritable new
 
 -- and of what a line gives
-abbrev Makes : Result SoFar (TokenFault ScriptKind) → Type 0
-Makes read = (new : SoFar) → read ≡ Ok new → IsWritable new
+abbrev Makes : Result Draft (TokenFault ScriptKind) → Type 0
+Makes read = (new : Draft) → read ≡ Ok new → IsWritable new
 
-start_more : (sofar : SoFar) (line : StartLine) → IsWritable sofar → is_writable_start line ≡ true → Gains (with_start sofar line)
+start_more : (sofar : Draft) (line : StartLine) → IsWritable sofar → is_writable_start line ≡ true → Gains (with_start sofar line)
 start_more sofar line f w =
     branches Gains (can_place sofar.start line) _ (Err (BadStart (start_fault sofar.start line)))
     (λ new h.
@@ -391,9 +392,9 @@ heading_writable policies targets tokens x h =
     (λ channels. end_at (UnknownWord Extra) (UnknownWord Broken) channels.1 >>= λ end. Ok (record { name = n.0.0; policy = p.0.0; channels = channels.0; threads = [] })) x p.2 in
     let e = made (end_at (UnknownWord Extra) (UnknownWord Broken) c.0.1) (λ end. Ok (record { name = n.0.0; policy = p.0.0; channels = c.0.0; threads = [] })) x c.2 in
     subst (λ target. is_writable_target target ≡ true) {x = record { name = n.0.0; policy = p.0.0; channels = c.0.0; threads = [] }}
-    (ok_same (record { name = n.0.0; policy = p.0.0; channels = c.0.0; threads = [] }) x e.2) (both _ _ (new_name_short targets tokens n.0 n.1) refl)
+    (ok_same (record { name = n.0.0; policy = p.0.0; channels = c.0.0; threads = [] }) x e.2) (and_from _ _ (new_name_short targets tokens n.0 n.1) refl)
 
-target_more : (policies : List Policy) (sofar : SoFar) (line tokens : Lexemes) → IsWritable sofar → Makes (add_target policies sofar line tokens)
+target_more : (policies : List Policy) (sofar : Draft) (line tokens : Lexemes) → IsWritable sofar → Makes (add_target policies sofar line tokens)
 unfolding add_target
 target_more policies sofar line tokens f new h =
     let x = made (heading policies sofar.targets tokens) (λ target. at_token line (with_target sofar target)) new h in
@@ -404,9 +405,9 @@ thread_step : (x y : TargetScript) → is_writable_target x ≡ true → one_thr
 thread_step x y h e =
     let t = passed (nat_lt (length x.threads) 4) (record x { threads = x.threads ++ [] ∷ [] }) y (TooMany Threads) e in
     let parts = and_parts (is_short_name x.name) (list_all is_writable_thread x.threads) h in
-    subst (λ y. is_writable_target y ≡ true) t.1 (both _ _ parts.0 (all_more is_writable_thread x.threads [] parts.1 refl))
+    subst (λ y. is_writable_target y ≡ true) t.1 (and_from _ _ parts.0 (all_more is_writable_thread x.threads [] parts.1 refl))
 
-thread_more : (sofar : SoFar) (line tokens : Lexemes) → IsWritable sofar → Makes (add_thread sofar line tokens)
+thread_more : (sofar : Draft) (line tokens : Lexemes) → IsWritable sofar → Makes (add_thread sofar line tokens)
 unfolding add_thread
 thread_more sofar line tokens f = branches Makes (is_opening sofar) (misplaced line) _ (λ new h. absurd cc) told
   where
@@ -417,7 +418,7 @@ thread_more sofar line tokens f = branches Makes (is_opening sofar) (misplaced l
         subst IsWritable (ok_same (record sofar { targets = m.0 }) new m.2)
         (record { starts = f.starts; targets = changed_all is_writable_target one_thread_more sofar.targets m.0 thread_step f.targets m.1 })
 
-patience_more : (sofar : SoFar) (line tokens : Lexemes) → IsWritable sofar → Makes (set_patience sofar line tokens)
+patience_more : (sofar : Draft) (line tokens : Lexemes) → IsWritable sofar → Makes (set_patience sofar line tokens)
 unfolding set_patience
 patience_more sofar line tokens f = by_patience sofar.patience
   where
@@ -439,14 +440,14 @@ statement_step statement x y s h e =
     let m = made (change_last (one_statement_more statement) x.threads) (λ threads. Ok (record x { threads = threads })) y e in
     let parts = and_parts (is_short_name x.name) (list_all is_writable_thread x.threads) h in
     subst (λ y. is_writable_target y ≡ true) (ok_same (record x { threads = m.0 }) y m.2)
-    (both _ _ parts.0 (changed_all is_writable_thread (one_statement_more statement) x.threads m.0 one parts.1 m.1))
+    (and_from _ _ parts.0 (changed_all is_writable_thread (one_statement_more statement) x.threads m.0 one parts.1 m.1))
   where
     one : (before after : List Statement) → is_writable_thread before ≡ true → one_statement_more statement before ≡ Ok after → is_writable_thread after ≡ true
     one before after h e =
         let t = passed (nat_lt (length before) 4096) (before ++ statement ∷ []) after (TooMany Statements) e in
         subst (λ after. is_writable_thread after ≡ true) t.1 (all_more is_writable_statement before statement h s)
 
-statement_more : (at : StatementAt) (sofar : SoFar) (statement : Statement) → IsWritable sofar → is_writable_statement statement ≡ true → Gains (with_statement sofar at statement)
+statement_more : (at : StatementAt) (sofar : Draft) (statement : Statement) → IsWritable sofar → is_writable_statement statement ≡ true → Gains (with_statement sofar at statement)
 statement_more at sofar statement f s new h =
     let named = sofar.named ++ named_by at statement in
     let m = made (change_last (in_last_thread statement) sofar.targets) (λ targets. Ok (record sofar { targets = targets; named = named })) new h in
@@ -455,7 +456,7 @@ statement_more at sofar statement f s new h =
       targets = changed_all is_writable_target (in_last_thread statement) sofar.targets m.0 (λ x y h e. statement_step statement x y s h e) f.targets m.1;
     })
 
-plain_more : QuotedAreText → (number : ℕ) (w : List ℕ) (sofar : SoFar) (line tokens : Lexemes) → IsWritable sofar → AreText tokens
+plain_more : QuotedAreText → (number : ℕ) (w : List ℕ) (sofar : Draft) (line tokens : Lexemes) → IsWritable sofar → AreText tokens
     → Makes (plain_line w sofar number line tokens)
 unfolding plain_line
 plain_more law number w sofar line tokens f t =
@@ -468,7 +469,7 @@ plain_more law number w sofar line tokens f t =
     start_more sofar s.0 f (start_fine law w line tokens t s.0 s.1) new (start_made line tokens (with_start sofar s.0) new s.2))
     (λ new h. absurd cc))
 
-line_more : QuotedAreText → (policies : List Policy) (sofar : SoFar) (line : ℕ) (tokens : Lexemes) → IsWritable sofar → AreText tokens
+line_more : QuotedAreText → (policies : List Policy) (sofar : Draft) (line : ℕ) (tokens : Lexemes) → IsWritable sofar → AreText tokens
     → Makes (line_of policies sofar line tokens)
 unfolding line_of
 line_more law policies sofar number (Next place (Word w) tokens) f t =
@@ -483,8 +484,8 @@ line_more law policies sofar line (End place) f t = λ new h. absurd cc
 
 -- texts
 
-lines_more : QuotedAreText → (policies : List Policy) (version : ℕ) (sofar : SoFar) (lines : List NumberedLine) → IsWritable sofar → list_all has_quoted_text lines ≡ true
-    → (new : SoFar) → read_lines (grammar policies) version sofar lines ≡ Ok new → IsWritable new
+lines_more : QuotedAreText → (policies : List Policy) (version : ℕ) (sofar : Draft) (lines : List NumberedLine) → IsWritable sofar → list_all has_quoted_text lines ≡ true
+    → (new : Draft) → read_lines (grammar policies) version sofar lines ≡ Ok new → IsWritable new
 unfolding read_lines
 lines_more law policies version sofar [] f t new h = subst IsWritable (ok_same sofar new h) f
 lines_more law policies version sofar (line ∷ lines) f t new h =
@@ -494,19 +495,19 @@ lines_more law policies version sofar (line ∷ lines) f t new h =
     let more = line_more law policies sofar line.number (tokens_of line.text) f parts.0 m.0 (on_this line read m.0 m.1) in
     lines_more law policies version m.0 lines more parts.1 new m.2
 
-by_writable : QuotedAreText → (policies : List Policy) (lines : List NumberedLine) (sofar : SoFar) → list_all has_quoted_text lines ≡ true
+by_writable : QuotedAreText → (policies : List Policy) (lines : List NumberedLine) (sofar : Draft) → list_all has_quoted_text lines ≡ true
     → read_by (grammar policies) lines ≡ Ok sofar → IsWritable sofar
 by_writable law policies [] sofar t h = absurd cc
 by_writable law policies (first ∷ lines) sofar t h =
     let m = made (on_line by_tokens first (script_version first.text)) (λ version. read_lines (grammar policies) version nothing lines) sofar h in
     lines_more law policies m.0 nothing lines (record { starts = refl; targets = refl }) (and_parts (has_quoted_text first) (list_all has_quoted_text lines) t).1 sofar m.2
 
-script_writable : (text : List ℕ) (sofar : SoFar) (script : Script) → IsWritable sofar → finished text sofar ≡ Ok script → is_writable script ≡ true
+script_writable : (text : List ℕ) (sofar : Draft) (script : Script) → IsWritable sofar → finished text sofar ≡ Ok script → is_writable script ≡ true
 script_writable text sofar script f h = by_absence (first_absence sofar.targets sofar.named) h
   where
     by_absence : (absent : Option Absence)
         → ◌≡◌ {A = Result Script ScriptFault} (elim absent [ None ↦ Ok (script_of sofar) | Some absence ↦ Err (absence_fault text absence) ]) (Ok script) → is_writable script ≡ true
-    by_absence None h = subst (λ s. is_writable s ≡ true) (ok_same (script_of sofar) script h) (both _ _ f.starts f.targets)
+    by_absence None h = subst (λ s. is_writable s ≡ true) (ok_same (script_of sofar) script h) (and_from _ _ f.starts f.targets)
     by_absence (Some absence) h = absurd cc
 
 read_writable : QuotedAreText → QuotedTokensAreText → (policies : List Policy) (text : List ℕ) (script : Script) → reading policies text ≡ Ok script → is_writable script ≡ true
@@ -514,7 +515,7 @@ read_writable strings law policies text script h =
     let d = made (read_text NotUtf8 (grammar policies) text) (λ sofar. finished text sofar) script h in
     script_writable text d.0 script (by_utf8 d.0 (not_utf8_place text) refl d.1) d.2
   where
-    by_utf8 : (sofar : SoFar) (place : Option Place) → not_utf8_place text ≡ place
+    by_utf8 : (sofar : Draft) (place : Option Place) → not_utf8_place text ≡ place
         → where_utf8 NotUtf8 place (read_by (grammar policies) (lines_of text)) ≡ Ok sofar
         → IsWritable sofar
     by_utf8 sofar None e h = by_writable strings policies (lines_of text) sofar (law text e) h
@@ -529,13 +530,13 @@ text_units : (us : List ℕ) → list_all is_text_unit us ≡ true → list_all 
 text_units [] h = refl
 text_units (u ∷ us) h =
     let parts = and_parts (is_text_unit u) (list_all is_text_unit us) h in
-    both _ _ (and_parts (nat_le 32 u) (is_unit u) (and_parts (nat_le 32 u && is_unit u) (not (u == 34)) parts.0).0).1 (text_units us parts.1)
+    and_from _ _ (and_parts (nat_le 32 u) (is_unit u) (and_parts (nat_le 32 u && is_unit u) (not (u == 34)) parts.0).0).1 (text_units us parts.1)
 
 args_units : (args : List Arg) → list_all is_writable_arg args ≡ true → list_all has_units args ≡ true
 args_units [] h = refl
 args_units (arg.Str text ∷ args) h =
     let parts = and_parts (is_text text) (list_all is_writable_arg args) h in
-    both _ _ (text_units text (and_parts (list_all is_text_unit text) (is_paired text) parts.0).0) (args_units args parts.1)
+    and_from _ _ (text_units text (and_parts (list_all is_text_unit text) (is_paired text) parts.0).0) (args_units args parts.1)
 args_units (arg.Num number ∷ args) h = args_units args (and_parts (is_word64 number) (list_all is_writable_arg args) h).1
 
 statement_units : (statement : Statement) → is_writable_statement statement ≡ true → statement_has_units statement ≡ true
@@ -548,7 +549,7 @@ statement_units (Wait target word value most) h = refl
 -- what each of these has, each of those has
 all_as : {A : Type 0} (p q : A → Bool) → ((x : A) → p x ≡ true → q x ≡ true) → (xs : List A) → list_all p xs ≡ true → list_all q xs ≡ true
 all_as p q f [] h = refl
-all_as p q f (x ∷ xs) h = let parts = and_parts (p x) (list_all p xs) h in both _ _ (f x parts.0) (all_as p q f xs parts.1)
+all_as p q f (x ∷ xs) h = let parts = and_parts (p x) (list_all p xs) h in and_from _ _ (f x parts.0) (all_as p q f xs parts.1)
 
 thread_units : (statements : List Statement) → is_writable_thread statements ≡ true → thread_has_units statements ≡ true
 thread_units statements h = all_as is_writable_statement statement_has_units statement_units statements h

@@ -1,7 +1,7 @@
 -- What is read of a script stays sound from line to line.
 use Rattle.std.proofs.Common.{◌≡◌, refl, sym, ap, ◌∙◌, subst, arith, ℕ, ◌+◌, List, [], ◌∷◌, ◌++◌, length, length-append, Bool, true, false, not, ◌&&◌, ◌||◌, nat_le, nat_lt, nat_eq, cond, Option, None, Some, Result, Ok, Err, codes}
 use Rattle.std.specs.Prelude.{is_ok}
-use Rattle.std.proofs.lemmas.Bool.{and_parts}
+use Rattle.std.proofs.lemmas.Bool.{and_parts, and_from, or_parts}
 use Rattle.std.proofs.lemmas.Bool.Decides.{nat_tests}
 use Rattle.std.proofs.lemmas.List.Folds.{list_all-append, list_any-append}
 use Rattle.std.specs.Cmp.{nat_eq_equiv, partial_equiv_from_equiv}
@@ -20,10 +20,11 @@ use Rattle.sb_rule.specs.WellMade.{are_well_made, is_named}
 use Rattle.sb_rule.specs.declared.policies.Policy.{Policy}
 use Rattle.sb_scripttext.proofs.LastChanged.{KeepsName, changed_all, changed_length, changed_differ}
 use Rattle.sb_scripttext.proofs.Opened.{opens_with}
-use Rattle.sb_scripttext.proofs.Sound.{at_made, both, made, ok_same, passed, branches, in_range, none_absent, patience_sound, start_sound, statement_sound}
+use Rattle.sb_scripttext.proofs.Sound.{at_made, made, ok_same, passed, branches, in_range, none_absent, patience_sound, start_sound, statement_sound}
 use Rattle.sb_scripttext.specs.Arguments.{most_32}
 use Rattle.sb_scripttext.specs.StartFaults.{start_fault}
-use Rattle.sb_scripttext.specs.SoFar.{SoFar, nothing, change_last, is_opening, is_in_thread, with_patience, with_start, with_target, one_thread_more, with_thread, one_statement_more, in_last_thread, named_by, statement_at, with_statement}
+use Rattle.sb_scripttext.specs.Drafts.{nothing, change_last, is_opening, is_in_thread, with_patience, with_start, with_target, one_thread_more, with_thread, one_statement_more, in_last_thread, named_by, statement_at, with_statement}
+use Rattle.sb_scripttext.specs.declared.drafts.Draft.{Draft}
 use Rattle.sb_scripttext.specs.Lines.{is_target_named, new_name, new_name_at, policy_number, policy_at, heading, patience, set_patience, add_target, add_thread, at_start, misplaced, not_here, start_line, statement_line, plain_line, line_of}
 use Rattle.sb_scripttext.specs.Openings.{can_place}
 use Rattle.sb_scripttext.specs.ScriptTexts.{Absence, ScriptFault, script_version, add_line, grammar, absence, absence_fault, first_absence, patience_of, script_of, finished, reading}
@@ -60,7 +61,7 @@ all_behind p before last = list_all-append p before (last ∷ []) ∙ ap (λ b. 
 
 -- what holds of all holds with one more of which it holds
 pub all_more : {A : Type 0} (p : A → Bool) (before : List A) (last : A) → list_all p before ≡ true → p last ≡ true → list_all p (behind before last) ≡ true
-all_more p before last h k = all_behind p before last ∙ both _ _ h k
+all_more p before last h k = all_behind p before last ∙ and_from _ _ h k
 
 one_longer : {A : Type 0} (most : ℕ) (before : List A) (last : A) → nat_lt (length before) most ≡ true → nat_le (length (behind before last)) most ≡ true
 one_longer most before last h = let e : length (behind before last) ≡ length before + 1 = length-append before (last ∷ []) in grind (arith, nat_tests, h, e)
@@ -84,10 +85,6 @@ absent_rest targets (x ∷ xs) ys h = absent_rest targets xs ys (none_absent (ab
 names_symm : (a b : List ℕ) → pointwise nat_eq a b ≡ pointwise nat_eq b a
 names_symm = (lists_per (partial_equiv_from_equiv nat_eq_equiv)).symm
 
-neither : (a b : Bool) → (a || b) ≡ false → (a ≡ false) × (b ≡ false)
-neither true b h = absurd cc
-neither false b h = (refl, h)
-
 not_true : (b : Bool) → not b ≡ true → b ≡ false
 not_true false h = refl
 not_true true h = absurd cc
@@ -97,12 +94,12 @@ differ_more : (before : List TargetScript) (last : TargetScript) → names_diffe
     → names_differ (behind before last) ≡ true
 differ_more [] last h k = refl
 differ_more (x ∷ xs) last h k =
-    let parts = neither (is_target_named last.name x) (list_any (is_target_named last.name) xs) k in
+    let parts = or_parts (is_target_named last.name x) (list_any (is_target_named last.name) xs) k in
     let apart = and_parts (not (list_any (λ other. pointwise nat_eq other.name x.name) xs)) (names_differ xs) h in
     let other : pointwise nat_eq last.name x.name ≡ false = names_symm last.name x.name ∙ parts.0 in
     let none : list_any (λ other. pointwise nat_eq other.name x.name) (behind xs last) ≡ false =
     list_any-append (λ other. pointwise nat_eq other.name x.name) xs (last ∷ []) ∙ rw (not_true _ apart.0) rw (other) refl in
-    both _ _ (ap not none) (differ_more xs last apart.1 parts.1)
+    and_from _ _ (ap not none) (differ_more xs last apart.1 parts.1)
 
 -- targets are sound, provided that what their statements name is there
 record AreFine (count : ℕ) (targets : List TargetScript) (named : List Named) : Type 0 where
@@ -117,7 +114,7 @@ record AreOpen (start : List StartLine) : Type 0 where
   sound : list_all is_start start ≡ true
   placed : is_ok (opened start) ≡ true
 
-record IsFine (count : ℕ) (sofar : SoFar) : Type 0 where
+record IsFine (count : ℕ) (sofar : Draft) : Type 0 where
   patience : is_patience (patience_of sofar.patience) ≡ true
   start : AreOpen sofar.start
   targets : AreFine count sofar.targets sofar.named
@@ -134,8 +131,8 @@ target_parts all x e =
 with_threads : (all : List TargetScript) (x : TargetScript) (threads : List (List Statement)) → (nat_le 1 x.channels && nat_le x.channels 8) ≡ true
     → nat_le (length threads) 4 ≡ true → list_all (is_thread all) threads ≡ true → is_target all (record x { threads = threads }) ≡ true
 with_threads all x threads c l t =
-    both (nat_le 1 x.channels && nat_le x.channels 8 && nat_le (length threads) 4) (list_all (is_thread all) threads)
-    (both (nat_le 1 x.channels && nat_le x.channels 8) (nat_le (length threads) 4) c l) t
+    and_from (nat_le 1 x.channels && nat_le x.channels 8 && nat_le (length threads) 4) (list_all (is_thread all) threads)
+    (and_from (nat_le 1 x.channels && nat_le x.channels 8) (nat_le (length threads) 4) c l) t
 
 -- what one thread more is
 thread_made : (x y : TargetScript) → one_thread_more x ≡ Ok y → (nat_lt (length x.threads) 4 ≡ true) × (record x { threads = x.threads ++ [] ∷ [] } ≡ y)
@@ -161,7 +158,7 @@ in_thread_step all statement statements more s h e =
     let t = passed (nat_lt (length statements) 4096) (statements ++ statement ∷ []) more (TooMany Statements) e in
     let parts = and_parts (nat_le (length statements) 4096) (list_all (is_statement all) statements) h in
     subst (λ more. is_thread all more ≡ true) t.1
-    (both _ _ (one_longer 4096 statements statement t.0) (all_more (is_statement all) statements statement parts.1 s))
+    (and_from _ _ (one_longer 4096 statements statement t.0) (all_more (is_statement all) statements statement parts.1 s))
 
 statement_step : (all : List TargetScript) (statement : Statement) (x y : TargetScript) → is_statement all statement ≡ true → is_target all x ≡ true
     → in_last_thread statement x ≡ Ok y → is_target all y ≡ true
@@ -190,7 +187,7 @@ start_made line tokens (Ok y) x h = ap Ok (ok_same y x h)
 start_made line tokens (Err kind) x h = absurd cc
 
 -- the patience, the opening lines and the targets so far
-fine_start : (count : ℕ) (sofar new : SoFar) (line : StartLine) → IsFine count sofar → is_start line ≡ true → with_start sofar line ≡ Ok new → IsFine count new
+fine_start : (count : ℕ) (sofar new : Draft) (line : StartLine) → IsFine count sofar → is_start line ≡ true → with_start sofar line ≡ Ok new → IsFine count new
 fine_start count sofar new line f s h =
     let p = placeable (start_fault sofar.start line) (can_place sofar.start line) (cond (nat_lt (length sofar.start) 4096) (Ok (record sofar { start = sofar.start ++ line ∷ [] })) (Err (TooMany Openings))) new h in
     let t = passed (nat_lt (length sofar.start) 4096) (record sofar { start = sofar.start ++ line ∷ [] }) new (TooMany Openings) p.1 in
@@ -204,7 +201,7 @@ fine_start count sofar new line f s h =
       targets = f.targets;
     })
   where
-    placeable : (why : StartFault) (b : Bool) (x : Result SoFar ScriptKind) (new : SoFar) → cond b x (Err (BadStart why)) ≡ Ok new → (b ≡ true) × (x ≡ Ok new)
+    placeable : (why : StartFault) (b : Bool) (x : Result Draft ScriptKind) (new : Draft) → cond b x (Err (BadStart why)) ≡ Ok new → (b ≡ true) × (x ≡ Ok new)
     placeable why true x new h = (refl, h)
     placeable why false x new h = absurd cc
 
@@ -273,7 +270,7 @@ heading_read policies targets tokens x h =
       none = refl;
     })
 
-fine_target : (count : ℕ) (sofar new : SoFar) (target : TargetScript) → IsFine count sofar → IsHeading count sofar.targets target
+fine_target : (count : ℕ) (sofar new : Draft) (target : TargetScript) → IsFine count sofar → IsHeading count sofar.targets target
     → with_target sofar target ≡ Ok new → IsFine count new
 fine_target count sofar new target f i e =
     let old = sofar.targets in
@@ -291,7 +288,7 @@ fine_target count sofar new target f i e =
       };
     })
 
-fine_thread : (count : ℕ) (sofar new : SoFar) → IsFine count sofar → with_thread sofar ≡ Ok new → IsFine count new
+fine_thread : (count : ℕ) (sofar new : Draft) → IsFine count sofar → with_thread sofar ≡ Ok new → IsFine count new
 fine_thread count sofar new f e =
     let m = made (change_last one_thread_more sofar.targets) (λ targets. Ok (record sofar { targets = targets })) new e in
     subst (IsFine count) (ok_same (record sofar { targets = m.0 }) new m.2) (record {
@@ -302,7 +299,7 @@ fine_thread count sofar new f e =
           (λ all a. (a, thread_step all)) f.targets m.1;
     })
 
-fine_statement : (count : ℕ) (at : StatementAt) (sofar new : SoFar) (statement : Statement) → IsFine count sofar
+fine_statement : (count : ℕ) (at : StatementAt) (sofar new : Draft) (statement : Statement) → IsFine count sofar
     → ((all : List TargetScript) → first_absence all (named_by at statement) ≡ None → is_statement all statement ≡ true)
     → with_statement sofar at statement ≡ Ok new → IsFine count new
 fine_statement count at sofar new statement f s e =
@@ -323,10 +320,10 @@ fine_statement count at sofar new statement f s e =
     })
 
 -- what a line makes of what is so far there, and is fine
-abbrev Makes : ℕ → Result SoFar (TokenFault ScriptKind) → Type 0
-Makes count read = (new : SoFar) → read ≡ Ok new → IsFine count new
+abbrev Makes : ℕ → Result Draft (TokenFault ScriptKind) → Type 0
+Makes count read = (new : Draft) → read ≡ Ok new → IsFine count new
 
-patience_fine : (count : ℕ) (sofar : SoFar) (line tokens : Lexemes) → IsFine count sofar → Makes count (set_patience sofar line tokens)
+patience_fine : (count : ℕ) (sofar : Draft) (line tokens : Lexemes) → IsFine count sofar → Makes count (set_patience sofar line tokens)
 unfolding set_patience
 patience_fine count sofar line tokens f = by_patience sofar.patience
   where
@@ -346,19 +343,19 @@ patience_fine count sofar line tokens f = by_patience sofar.patience
     by_patience None = branches (Makes count) (is_opening sofar) _ _ told (λ new h. absurd cc)
     by_patience (Some n) = λ new h. absurd cc
 
-target_fine : (policies : List Policy) (sofar : SoFar) (line tokens : Lexemes) → IsFine (length policies) sofar
+target_fine : (policies : List Policy) (sofar : Draft) (line tokens : Lexemes) → IsFine (length policies) sofar
     → Makes (length policies) (add_target policies sofar line tokens)
 unfolding add_target
 target_fine policies sofar line tokens f new h =
     let x = made (heading policies sofar.targets tokens) (λ target. at_token line (with_target sofar target)) new h in
     fine_target (length policies) sofar new x.0 f (heading_read policies sofar.targets tokens x.0 x.1) (at_made line (with_target sofar x.0) new x.2)
 
-thread_fine : (count : ℕ) (sofar : SoFar) (line tokens : Lexemes) → IsFine count sofar → Makes count (add_thread sofar line tokens)
+thread_fine : (count : ℕ) (sofar : Draft) (line tokens : Lexemes) → IsFine count sofar → Makes count (add_thread sofar line tokens)
 unfolding add_thread
 thread_fine count sofar line tokens f = branches (Makes count) (is_opening sofar) (misplaced line) _ (λ new h. absurd cc)
     (λ new h. fine_thread count sofar new f (at_made line (with_thread sofar) new (made (end_at (UnknownWord Extra) (UnknownWord Broken) tokens) (λ end. at_token line (with_thread sofar)) new h).2))
 
-plain_fine : (count number : ℕ) (w : List ℕ) (sofar : SoFar) (line tokens : Lexemes) → IsFine count sofar
+plain_fine : (count number : ℕ) (w : List ℕ) (sofar : Draft) (line tokens : Lexemes) → IsFine count sofar
     → Makes count (plain_line w sofar number line tokens)
 unfolding plain_line
 plain_fine count number w sofar line tokens f =
@@ -371,7 +368,7 @@ plain_fine count number w sofar line tokens f =
     fine_start count sofar new s.0 f (start_sound w line tokens s.0 s.1) (start_made line tokens (with_start sofar s.0) new s.2))
     (λ new h. absurd cc))
 
-line_fine : (policies : List Policy) (sofar : SoFar) (line : ℕ) (tokens : Lexemes) → IsFine (length policies) sofar
+line_fine : (policies : List Policy) (sofar : Draft) (line : ℕ) (tokens : Lexemes) → IsFine (length policies) sofar
     → Makes (length policies) (line_of policies sofar line tokens)
 unfolding line_of
 line_fine policies sofar number (Next place (Word w) tokens) f =
@@ -388,8 +385,8 @@ pub on_this : {A : Type 0} (line : NumberedLine) (read : Result A (TokenFault Sc
 on_this line (Ok y) x h = ap Ok (ok_same y x h)
 on_this line (Err fault) x h = absurd cc
 
-lines_fine : (policies : List Policy) (version : ℕ) (sofar : SoFar) (lines : List NumberedLine) → IsFine (length policies) sofar
-    → (new : SoFar) → read_lines (grammar policies) version sofar lines ≡ Ok new → IsFine (length policies) new
+lines_fine : (policies : List Policy) (version : ℕ) (sofar : Draft) (lines : List NumberedLine) → IsFine (length policies) sofar
+    → (new : Draft) → read_lines (grammar policies) version sofar lines ≡ Ok new → IsFine (length policies) new
 unfolding read_lines
 lines_fine policies version sofar [] f new h = subst (IsFine (length policies)) (ok_same sofar new h) f
 lines_fine policies version sofar (line ∷ lines) f new h =
@@ -410,7 +407,7 @@ record IsReady (count : ℕ) (script : Script) : Type 0 where
   judged : list_all (is_judged count) script.targets ≡ true
   placed : is_ok (opened script.start) ≡ true
 
-sofar_ready : (count : ℕ) (text : List ℕ) (sofar : SoFar) (script : Script) → IsFine count sofar → finished text sofar ≡ Ok script → IsReady count script
+sofar_ready : (count : ℕ) (text : List ℕ) (sofar : Draft) (script : Script) → IsFine count sofar → finished text sofar ≡ Ok script → IsReady count script
 sofar_ready count text sofar script f h = by_absence (first_absence sofar.targets sofar.named) refl h
   where
     by_absence : (absent : Option Absence) → first_absence sofar.targets sofar.named ≡ absent
@@ -418,13 +415,13 @@ sofar_ready count text sofar script f h = by_absence (first_absence sofar.target
     by_absence None a h =
         let t = f.targets in
         subst (IsReady count) (ok_same (script_of sofar) script h) (record {
-          sound = both _ _ (both _ _ (both _ _ f.patience f.start.few) f.start.sound) (both _ _ (both _ _ t.few t.differ) (t.each sofar.targets a));
+          sound = and_from _ _ (and_from _ _ (and_from _ _ f.patience f.start.few) f.start.sound) (and_from _ _ (and_from _ _ t.few t.differ) (t.each sofar.targets a));
           judged = t.judged;
           placed = f.start.placed;
         })
     by_absence (Some fault) a h = absurd cc
 
-by_fine : (policies : List Policy) (lines : List NumberedLine) (sofar : SoFar) → read_by (grammar policies) lines ≡ Ok sofar → IsFine (length policies) sofar
+by_fine : (policies : List Policy) (lines : List NumberedLine) (sofar : Draft) → read_by (grammar policies) lines ≡ Ok sofar → IsFine (length policies) sofar
 by_fine policies [] sofar h = absurd cc
 by_fine policies (first ∷ lines) sofar h =
     let m = made (on_line by_tokens first (script_version first.text)) (λ version. read_lines (grammar policies) version nothing lines) sofar h in
@@ -435,7 +432,7 @@ ready policies text script h =
     let d = made (read_text NotUtf8 (grammar policies) text) (λ sofar. finished text sofar) script h in
     sofar_ready (length policies) text d.0 script (by_utf8 d.0 (not_utf8_place text) d.1) d.2
   where
-    by_utf8 : (sofar : SoFar) (place : Option Place)
+    by_utf8 : (sofar : Draft) (place : Option Place)
         → where_utf8 NotUtf8 place (read_by (grammar policies) (lines_of text)) ≡ Ok sofar
         → IsFine (length policies) sofar
     by_utf8 sofar None h = by_fine policies (lines_of text) sofar h
@@ -444,4 +441,4 @@ ready policies text script h =
 pub scripts_are_ready : (policies : List Policy) (text : List ℕ) (script : Script) → are_well_made policies ≡ true → reading policies text ≡ Ok script
     → is_ready policies script ≡ true
 scripts_are_ready policies text script m h =
-    let r = ready policies text script h in both _ _ (both _ _ (both _ _ r.sound m) r.judged) r.placed
+    let r = ready policies text script h in and_from _ _ (and_from _ _ (and_from _ _ r.sound m) r.judged) r.placed

@@ -10,7 +10,8 @@ use Rattle.sb_statements.specs.declared.statements.Statement.{Statement}
 use Rattle.sb_statements.specs.declared.statements.Statement.TheVariants.{Call, Store, Exchange, Load, Wait}
 use Rattle.sb_rule.specs.declared.policies.Policy.{Policy}
 use Rattle.sb_scripttext.proofs.Prefixes.{read_by_lines}
-use Rattle.sb_scripttext.specs.SoFar.{SoFar, change_last, is_opening, is_in_thread, with_patience, with_start, with_target, one_thread_more, with_thread, in_last_thread, named_by, statement_at, with_statement}
+use Rattle.sb_scripttext.specs.Drafts.{change_last, is_opening, is_in_thread, with_patience, with_start, with_target, one_thread_more, with_thread, in_last_thread, named_by, statement_at, with_statement}
+use Rattle.sb_scripttext.specs.declared.drafts.Draft.{Draft}
 use Rattle.sb_scripttext.specs.Laws.{SkippedLinesCountAlone}
 use Rattle.sb_scripttext.specs.Lines.{at_start, heading, misplaced, patience, set_patience, add_target, add_thread, start_line, statement_line, plain_line, line_of}
 use Rattle.sb_scripttext.specs.Openings.{can_place}
@@ -62,7 +63,7 @@ renumbered_at f at = record { line = f at.line; target = at.target; channel = at
 abbrev renumbered_named : (ℕ → ℕ) → Named → Named
 renumbered_named f named = record { at = renumbered_at f named.at; target = named.target; channel = named.channel }
 
-abbrev renumbered_sofar : (ℕ → ℕ) → SoFar → SoFar
+abbrev renumbered_sofar : (ℕ → ℕ) → Draft → Draft
 renumbered_sofar f sofar = record sofar { named = map (renumbered_named f) sofar.named }
 
 names_move : (f : ℕ → ℕ) (at : StatementAt) (statement : Statement) → map (renumbered_named f) (named_by at statement) ≡ named_by (renumbered_at f at) statement
@@ -72,19 +73,19 @@ names_move f at (Exchange target word from to) = refl
 names_move f at (Load target word) = refl
 names_move f at (Wait target word value most) = refl
 
-start_moves : (f : ℕ → ℕ) (sofar : SoFar) (line : StartLine) → on_value (renumbered_sofar f) (with_start sofar line) ≡ with_start (renumbered_sofar f sofar) line
+start_moves : (f : ℕ → ℕ) (sofar : Draft) (line : StartLine) → on_value (renumbered_sofar f) (with_start sofar line) ≡ with_start (renumbered_sofar f sofar) line
 start_moves f sofar line =
     choice (renumbered_sofar f) (can_place sofar.start line) _ _ _ _
     (choice (renumbered_sofar f) (nat_lt (length sofar.start) 4096) (Ok (record sofar { start = sofar.start ++ line ∷ [] })) (Err (TooMany Openings)) _ _ refl refl) refl
 
-target_moves : (f : ℕ → ℕ) (sofar : SoFar) (target : TargetScript) → on_value (renumbered_sofar f) (with_target sofar target) ≡ with_target (renumbered_sofar f sofar) target
+target_moves : (f : ℕ → ℕ) (sofar : Draft) (target : TargetScript) → on_value (renumbered_sofar f) (with_target sofar target) ≡ with_target (renumbered_sofar f sofar) target
 target_moves f sofar target =
     choice (renumbered_sofar f) (nat_lt (length sofar.targets) 8) (Ok (record sofar { targets = sofar.targets ++ target ∷ [] })) (Err (TooMany Targets)) _ _ refl refl
 
-thread_moves : (f : ℕ → ℕ) (sofar : SoFar) → on_value (renumbered_sofar f) (with_thread sofar) ≡ with_thread (renumbered_sofar f sofar)
+thread_moves : (f : ℕ → ℕ) (sofar : Draft) → on_value (renumbered_sofar f) (with_thread sofar) ≡ with_thread (renumbered_sofar f sofar)
 thread_moves f sofar = then (renumbered_sofar f) (change_last one_thread_more sofar.targets) _ _ (λ targets. refl)
 
-statement_moves : (f : ℕ → ℕ) (sofar : SoFar) (at : StatementAt) (statement : Statement)
+statement_moves : (f : ℕ → ℕ) (sofar : Draft) (at : StatementAt) (statement : Statement)
     → on_value (renumbered_sofar f) (with_statement sofar at statement) ≡ with_statement (renumbered_sofar f sofar) (renumbered_at f at) statement
 statement_moves f sofar at statement =
     then (renumbered_sofar f) (change_last (in_last_thread statement) sofar.targets) _ _
@@ -93,7 +94,7 @@ statement_moves f sofar at statement =
     names : map (renumbered_named f) (sofar.named ++ named_by at statement) ≡ map (renumbered_named f) sofar.named ++ named_by (renumbered_at f at) statement
     names = map_append (renumbered_named f) sofar.named (named_by at statement) ∙ ap (λ more. map (renumbered_named f) sofar.named ++ more) (names_move f at statement)
 
-patience_moves : (f : ℕ → ℕ) (sofar : SoFar) (line tokens : Lexemes)
+patience_moves : (f : ℕ → ℕ) (sofar : Draft) (line tokens : Lexemes)
     → on_value (renumbered_sofar f) (set_patience sofar line tokens) ≡ set_patience (renumbered_sofar f sofar) line tokens
 unfolding set_patience
 patience_moves f sofar line tokens = by_patience sofar.patience
@@ -109,7 +110,7 @@ patience_moves f sofar line tokens = by_patience sofar.patience
     by_patience (Some n) = refl
 
 -- a line adds the same, with other numbers
-line_moves : (f : ℕ → ℕ) (policies : List Policy) (sofar : SoFar) (line : ℕ) (tokens : Lexemes)
+line_moves : (f : ℕ → ℕ) (policies : List Policy) (sofar : Draft) (line : ℕ) (tokens : Lexemes)
     → on_value (renumbered_sofar f) (line_of policies sofar line tokens) ≡ line_of policies (renumbered_sofar f sofar) (f line) tokens
 unfolding line_of add_target add_thread plain_line
 line_moves f policies sofar number (Next place (Word w) tokens) =
@@ -151,7 +152,7 @@ absence_moves f targets (x ∷ xs) = by_first (absence_moves f targets xs) (abse
 abbrev IsOtherText : (ℕ → ℕ) → List ℕ → List ℕ → Type 0
 IsOtherText f text other = (number : ℕ) → line_or_empty (f number) other ≡ line_or_empty number text
 
-finished_moves : (f : ℕ → ℕ) (text other : List ℕ) (sofar : SoFar) → IsOtherText f text other
+finished_moves : (f : ℕ → ℕ) (text other : List ℕ) (sofar : Draft) → IsOtherText f text other
     → renumbered f (λ script. script) (finished text sofar) ≡ finished other (renumbered_sofar f sofar)
 finished_moves f text other sofar same =
     by_absence (first_absence sofar.targets sofar.named)
@@ -163,7 +164,7 @@ finished_moves f text other sofar same =
     by_absence None = refl
     by_absence (Some absence) = ap (λ line. Err (absence_on (f absence.0) absence.1 line)) (sym (same absence.0))
 
-read_moves : (f : ℕ → ℕ) (text other : List ℕ) (read : Result SoFar ScriptFault) → IsOtherText f text other
+read_moves : (f : ℕ → ℕ) (text other : List ℕ) (read : Result Draft ScriptFault) → IsOtherText f text other
     → renumbered f (λ script. script) (read >>= λ sofar. finished text sofar) ≡ (renumbered f (renumbered_sofar f) read >>= λ sofar. finished other sofar)
 read_moves f text other (Ok sofar) same = finished_moves f text other sofar same
 read_moves f text other (Err fault) same = refl
@@ -210,13 +211,13 @@ other_text appended written front line rest i s number =
     and_true true h = refl
     and_true false h = h
 
-pub skipped_lines_count_alone : LinesAppend → WrittenLinesAreRead → laws.SkippedLinesCountAlone SoFar ScriptKind → SkippedLinesCountAlone
+pub skipped_lines_count_alone : LinesAppend → WrittenLinesAreRead → laws.SkippedLinesCountAlone Draft ScriptKind → SkippedLinesCountAlone
 skipped_lines_count_alone appended written law policies front line rest i k s u v =
     let f = behind (length (raw_lines (ended front))) in
     let text = ended front ++ rest in
     let other = ended front ++ (ended line ++ rest) in
     read_by_lines policies other v
-    ∙ ap (λ (read : Result SoFar ScriptFault). read >>= λ sofar. finished other sofar)
+    ∙ ap (λ (read : Result Draft ScriptFault). read >>= λ sofar. finished other sofar)
     (law (grammar policies) (renumbered_sofar f) front line rest (refl, λ version sofar line. line_moves f policies sofar line.number (tokens_of line.text)) i k s)
     ∙ sym (read_moves f text other (read_by (grammar policies) (lines_of text)) (other_text appended written front line rest i s))
     ∙ ap (renumbered f (λ script. script)) (sym (read_by_lines policies text u))

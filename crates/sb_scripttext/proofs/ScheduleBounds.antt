@@ -18,7 +18,7 @@ use Rattle.sb_scripttext.specs.ScheduleLimits.{most_steps, most_rounds}
 use Rattle.sb_scripttext.specs.ScheduleLines.{any_word_at, within, last_number, count_at, step, last_word, add_steps, line_by, line_of}
 use Rattle.sb_scripttext.specs.ScheduleTexts.{ScheduleFault, schedule_version, add_line, grammar, reading}
 use Rattle.sb_scripttext.specs.declared.schedule_faults.ScheduleKind.{ScheduleKind}
-use Rattle.sb_scripttext.specs.declared.schedule_faults.ScheduleKind.TheVariants.{UnknownWord, UnknownActor, BadNumber, TooMany}
+use Rattle.sb_scripttext.specs.declared.schedule_faults.ScheduleKind.TheVariants.{UnknownWord, UnknownActor, BadNumber, OutOfRange, TooMany}
 use Rattle.sb_statements.specs.declared.schedules.Actor.{Actor}
 use Rattle.sb_statements.specs.declared.schedules.Schedule.{Schedule}
 use Rattle.sb_statements.specs.declared.scripts.TargetScript.{TargetScript}
@@ -51,10 +51,10 @@ named_there targets word actor h = by_name (actor_named word) h
 within_most : (lo hi : ℕ) (word : List ℕ) (n : ℕ) → within lo hi word ≡ Ok n → n ≤ hi
 within_most lo hi word n h = by_number (number_of word) h
   where
-    by_number : (m : Option ℕ) → ◌≡◌ {A = Result ℕ ScheduleKind} (elim m [ None ↦ Err BadNumber | Some m ↦ cond (nat_le lo m && nat_le m hi) (Ok m) (Err BadNumber) ]) (Ok n) → n ≤ hi
+    by_number : (m : Option ℕ) → ◌≡◌ {A = Result ℕ ScheduleKind} (elim m [ None ↦ Err BadNumber | Some m ↦ cond (nat_le lo m && nat_le m hi) (Ok m) (Err (OutOfRange lo hi)) ]) (Ok n) → n ≤ hi
     by_number None h = absurd cc
     by_number (Some m) h =
-        let t = passed (nat_le lo m && nat_le m hi) m n BadNumber h in
+        let t = passed (nat_le lo m && nat_le m hi) m n (OutOfRange lo hi) h in
         let high = (and_parts (nat_le lo m) (nat_le m hi) t.0).1 in
         subst (λ k. k ≤ hi) t.1 (grind (arith, nat_tests, high))
 

@@ -1,6 +1,6 @@
 -- What the readers of a line give is sound.
 use Rattle.std.proofs.Common.{◌≡◌, refl, ap, ◌∙◌, subst, arith, ℕ, ◌+◌, ◌^◌, List, [], ◌∷◌, Bool, true, false, ◌&&◌, nat_le, nat_lt, cond, length, Option, None, Some, Result, Ok, Err, codes}
-use Rattle.std.proofs.lemmas.Bool.{and_parts}
+use Rattle.std.proofs.lemmas.Bool.{and_parts, and_from}
 use Rattle.std.proofs.lemmas.Bool.Decides.{nat_tests}
 use Rattle.std.specs.Prelude.{slice_get}
 use Rattle.sb_block.specs.Blocks.{encodes}
@@ -15,7 +15,7 @@ use Rattle.sb_statements.specs.declared.statements.Statement.{Statement}
 use Rattle.sb_statements.specs.declared.statements.Statement.TheVariants.{Call, Store, Exchange, Load, Wait}
 use Rattle.sb_statements.specs.declared.statements.Word as words
 use Rattle.sb_scripttext.specs.Arguments.{most_32, tag_at, args_at, fitting, call}
-use Rattle.sb_scripttext.specs.SoFar.{named_by}
+use Rattle.sb_scripttext.specs.Drafts.{named_by}
 use Rattle.sb_scripttext.specs.Lines.{patience, start_line, statement_line}
 use Rattle.sb_scripttext.specs.Openings.{dir, file, key, event}
 use Rattle.sb_scripttext.specs.ScriptTexts.{Absence, absence, first_absence, no_channel, no_target}
@@ -23,7 +23,7 @@ use Rattle.sb_scripttext.specs.Statements.{value_at, short_at, block_place, plac
 use Rattle.sb_scripttext.specs.Steps.{number_at, within, number_within, string_at, name, name_at}
 use Rattle.sb_text.specs.Steps.{◌>>=◌, at_token, or_fault, end_at}
 use Rattle.sb_scripttext.specs.declared.faults.ScriptKind.{ScriptKind}
-use Rattle.sb_scripttext.specs.declared.faults.ScriptKind.TheVariants.{UnknownWord, WrongArgs, BadNumber, BadName, NoSuchWord, TooBig}
+use Rattle.sb_scripttext.specs.declared.faults.ScriptKind.TheVariants.{UnknownWord, WrongArgs, BadNumber, OutOfRange, BadName, NoSuchWord, TooBig}
 use Rattle.sb_text.specs.Numbers.{number_of}
 use Rattle.sb_text.specs.Tokens.{Lexemes, Next, End, Word, Quoted, Bad}
 use Rattle.sb_base.specs.Names.{is_name_of}
@@ -31,9 +31,6 @@ use Rattle.sb_scripttext.specs.declared.drafts.Named.{Named}
 use Rattle.sb_scripttext.specs.declared.drafts.StatementAt.{StatementAt}
 use Rattle.sb_text.specs.declared.refusals.TokenFault.{TokenFault}
 use Rattle.sb_text.specs.declared.refusals.WordFault.TheVariants.{Broken, Extra, Missing, Quoted, Unquoted}
-
-pub both : (a b : Bool) → a ≡ true → b ≡ true → (a && b) ≡ true
-both a b h k = rw (h) rw (k) refl
 
 -- a step that was made, and what followed it
 pub made : {A B E : Type 0} (first : Result A E) (next : A → Result B E) (y : B) → (first >>= next) ≡ Ok y → (x : A) × (first ≡ Ok x) × (next x ≡ Ok y)
@@ -64,7 +61,7 @@ unfolding number_within
 in_range lo hi quoted missing tokens x h =
     let n = made (number_at quoted missing tokens) (λ n. at_token tokens (within lo hi n.0) >>= λ number. Ok (number, n.1)) x h in
     let m = made (at_token tokens (within lo hi n.0.0)) (λ number. Ok (number, n.0.1)) x n.2 in
-    let t = passed (nat_le lo n.0.0 && nat_le n.0.0 hi) n.0.0 m.0 BadNumber (at_made tokens (within lo hi n.0.0) m.0 m.1) in
+    let t = passed (nat_le lo n.0.0 && nat_le n.0.0 hi) n.0.0 m.0 (OutOfRange lo hi) (at_made tokens (within lo hi n.0.0) m.0 m.1) in
     let same : m.0 ≡ x.0 = ap (λ (y : ℕ × Lexemes). y.0) (ok_same (m.0, n.0.1) x m.2) in
     subst (λ k. (nat_le lo k && nat_le k hi) ≡ true) (t.1 ∙ same) t.0
 
@@ -114,7 +111,7 @@ file_sound tokens line h =
     let a = made (number_within 0 most_32 BadNumber (UnknownWord Missing) x.0.1) (λ attributes. end_at (UnknownWord Extra) (UnknownWord Broken) attributes.1 >>= λ end. Ok (File x.0.0 attributes.0)) line x.2 in
     let e = made (end_at (UnknownWord Extra) (UnknownWord Broken) a.0.1) (λ end. Ok (File x.0.0 a.0.0)) line a.2 in
     subst (λ line. is_start line ≡ true) {x = File x.0.0 a.0.0} (ok_same (File x.0.0 a.0.0) line e.2)
-    (both (is_name_of x.0.0) (nat_lt a.0.0 (2 ^ 32)) (named_well (UnknownWord Unquoted) (UnknownWord Missing) tokens x.0 x.1) (below_32 a.0.0 (in_range 0 most_32 BadNumber (UnknownWord Missing) x.0.1 a.0 a.1)))
+    (and_from (is_name_of x.0.0) (nat_lt a.0.0 (2 ^ 32)) (named_well (UnknownWord Unquoted) (UnknownWord Missing) tokens x.0 x.1) (below_32 a.0.0 (in_range 0 most_32 BadNumber (UnknownWord Missing) x.0.1 a.0 a.1)))
 
 event_sound : (tokens : Lexemes) → Starts (event tokens)
 unfolding event
@@ -128,7 +125,7 @@ event_sound tokens line h =
     let kind = (and_parts (nat_le 0 k.0.0) (nat_le k.0.0 1) (in_range 0 1 BadNumber (UnknownWord Missing) x.0.1 k.0 k.1)).1 in
     let initial = (and_parts (nat_le 0 i.0.0) (nat_le i.0.0 1) (in_range 0 1 BadNumber (UnknownWord Missing) k.0.1 i.0 i.1)).1 in
     subst (λ line. is_start line ≡ true) {x = Event x.0.0 k.0.0 i.0.0} (ok_same (Event x.0.0 k.0.0 i.0.0) line e.2)
-    (both (is_name_of x.0.0 && nat_le k.0.0 1) (nat_le i.0.0 1) (both (is_name_of x.0.0) (nat_le k.0.0 1) (named_well (UnknownWord Unquoted) (UnknownWord Missing) tokens x.0 x.1) kind) initial)
+    (and_from (is_name_of x.0.0 && nat_le k.0.0 1) (nat_le i.0.0 1) (and_from (is_name_of x.0.0) (nat_le k.0.0 1) (named_well (UnknownWord Unquoted) (UnknownWord Missing) tokens x.0 x.1) kind) initial)
 
 pub start_sound : (w : List ℕ) (line tokens : Lexemes) → Starts (start_line w line tokens)
 unfolding start_line
@@ -226,7 +223,7 @@ store_sound tokens statement h =
     let e = made (end_at (WrongArgs Extra) (UnknownWord Broken) v.0.1) (λ end. Ok (Store w.0.0.0 w.0.0.1 v.0.0)) statement v.2 in
     subst IsSoundOnce {x = Store w.0.0.0 w.0.0.1 v.0.0}
     (ok_same (Store w.0.0.0 w.0.0.1 v.0.0) statement e.2)
-    (λ targets at absent. both _ _ (there targets at w.0.0.0 w.0.0.1.channel absent) (word_sound tokens w.0 w.1))
+    (λ targets at absent. and_from _ _ (there targets at w.0.0.0 w.0.0.1.channel absent) (word_sound tokens w.0 w.1))
 
 exchange_sound : (tokens : Lexemes) → States (exchange tokens)
 unfolding exchange
@@ -237,7 +234,7 @@ exchange_sound tokens statement h =
     let e = made (end_at (WrongArgs Extra) (UnknownWord Broken) t.0.1) (λ end. Ok (Exchange w.0.0.0 w.0.0.1 f.0.0 t.0.0)) statement t.2 in
     subst IsSoundOnce {x = Exchange w.0.0.0 w.0.0.1 f.0.0 t.0.0}
     (ok_same (Exchange w.0.0.0 w.0.0.1 f.0.0 t.0.0) statement e.2)
-    (λ targets at absent. both _ _ (there targets at w.0.0.0 w.0.0.1.channel absent) (word_sound tokens w.0 w.1))
+    (λ targets at absent. and_from _ _ (there targets at w.0.0.0 w.0.0.1.channel absent) (word_sound tokens w.0 w.1))
 
 load_sound : (tokens : Lexemes) → States (load tokens)
 unfolding load
@@ -246,7 +243,7 @@ load_sound tokens statement h =
     let e = made (end_at (WrongArgs Extra) (UnknownWord Broken) w.0.1) (λ end. Ok (Load w.0.0.0 w.0.0.1)) statement w.2 in
     subst IsSoundOnce {x = Load w.0.0.0 w.0.0.1}
     (ok_same (Load w.0.0.0 w.0.0.1) statement e.2)
-    (λ targets at absent. both _ _ (there targets at w.0.0.0 w.0.0.1.channel absent) (word_sound tokens w.0 w.1))
+    (λ targets at absent. and_from _ _ (there targets at w.0.0.0 w.0.0.1.channel absent) (word_sound tokens w.0 w.1))
 
 wait_sound : (tokens : Lexemes) → States (wait tokens)
 unfolding wait
@@ -258,10 +255,10 @@ wait_sound tokens statement h =
     let l = made (value_at v.0.1) (λ loads. end_at (WrongArgs Extra) (UnknownWord Broken) loads.1 >>= λ end. at_token v.0.1 (within 1 1000000 loads.0) >>= λ most. Ok (Wait w.0.0.0 w.0.0.1 v.0.0 most)) statement v.2 in
     let e = made (end_at (WrongArgs Extra) (UnknownWord Broken) l.0.1) (λ end. at_token v.0.1 (within 1 1000000 l.0.0) >>= λ most. Ok (Wait w.0.0.0 w.0.0.1 v.0.0 most)) statement l.2 in
     let m = made (at_token v.0.1 (within 1 1000000 l.0.0)) (λ most. Ok (Wait w.0.0.0 w.0.0.1 v.0.0 most)) statement e.2 in
-    let t = passed (nat_le 1 l.0.0 && nat_le l.0.0 1000000) l.0.0 m.0 BadNumber (at_made v.0.1 (within 1 1000000 l.0.0) m.0 m.1) in
+    let t = passed (nat_le 1 l.0.0 && nat_le l.0.0 1000000) l.0.0 m.0 (OutOfRange 1 1000000) (at_made v.0.1 (within 1 1000000 l.0.0) m.0 m.1) in
     subst IsSoundOnce {x = Wait w.0.0.0 w.0.0.1 v.0.0 m.0}
     (ok_same (Wait w.0.0.0 w.0.0.1 v.0.0 m.0) statement m.2)
-    (λ targets at absent. both (nat_lt w.0.0.1.channel (channels_of (slice_get targets w.0.0.0)) && nat_le w.0.0.1.at 64) (is_patience m.0) (both _ _ (there targets at w.0.0.0 w.0.0.1.channel absent) (word_sound tokens w.0 w.1)) (subst (λ n. is_patience n ≡ true) {x = l.0.0} {y = m.0} t.1 t.0))
+    (λ targets at absent. and_from (nat_lt w.0.0.1.channel (channels_of (slice_get targets w.0.0.0)) && nat_le w.0.0.1.at 64) (is_patience m.0) (and_from _ _ (there targets at w.0.0.0 w.0.0.1.channel absent) (word_sound tokens w.0 w.1)) (subst (λ n. is_patience n ≡ true) {x = l.0.0} {y = m.0} t.1 t.0))
 
 pub statement_sound : (w : List ℕ) (line tokens : Lexemes) → States (statement_line w line tokens)
 unfolding statement_line

@@ -3,7 +3,7 @@ use Rattle.std.proofs.Common.{◌≡◌, ◌∙◌, ℕ, suc, ◌+◌, ◌≤◌
 use Rattle.std.specs.Cmp.Lexicographic.{pointwise}
 use Rattle.std.specs.List.{flat_map, list_all, list_any}
 use Rattle.std.specs.Prelude.{is_ok}
-use Rattle.std.proofs.lemmas.Bool.{and_parts, false≢true}
+use Rattle.std.proofs.lemmas.Bool.{and_parts, false≢true, and_from, or_parts}
 use Rattle.std.proofs.lemmas.Bool.Decides.{nat_tests}
 use Rattle.std.proofs.lemmas.List.Folds.{list_any-append}
 use Rattle.sb_call.specs.ShortNames.{is_short_name}
@@ -22,16 +22,17 @@ use Rattle.sb_scripttext.proofs.LastChanged.{changed_behind, some_behind, last_b
 use Rattle.sb_scripttext.proofs.Opened.{place_within}
 use Rattle.sb_scripttext.proofs.Prefixes.{read_by_lines}
 use Rattle.sb_scripttext.proofs.Ready.{none_here}
-use Rattle.sb_scripttext.proofs.Sound.{both, none_absent}
+use Rattle.sb_scripttext.proofs.Sound.{none_absent}
 use Rattle.sb_text.specs.Lines.{NumberedLine}
 use Rattle.sb_text.specs.TokenLaws.{placed, written_line}
 use Rattle.sb_text.specs.PlainLines.{is_plain_line, numbered, PlainLinesAreUtf8, PlainLinesAreRead, PlainTokensAreRead}
 use Rattle.sb_scripttext.proofs.WrittenOpenings.{start_reader, start_read}
 use Rattle.sb_scripttext.proofs.WrittenStatements.{AreSound, patience_number, statement_reader, statement_read, statement_there}
 use Rattle.sb_scripttext.proofs.WrittenTokens.{IsWhole, sound_target, channels_number, start_plain, statement_plain, patience_plain, heading_plain, script_plain}
-use Rattle.sb_scripttext.proofs.WrittenWords.{Texts, not_true, names_symm, or_false, within_read, policy_read}
+use Rattle.sb_scripttext.proofs.WrittenWords.{Texts, not_true, names_symm, within_read, policy_read}
 use Rattle.sb_scripttext.specs.StartFaults.{start_fault}
-use Rattle.sb_scripttext.specs.SoFar.{SoFar, nothing, is_empty, is_opening, is_in_thread, with_patience, with_start, with_target, one_thread_more, with_thread, one_statement_more, in_last_thread, named_by, statement_at, with_statement}
+use Rattle.sb_scripttext.specs.Drafts.{nothing, is_empty, is_opening, is_in_thread, with_patience, with_start, with_target, one_thread_more, with_thread, one_statement_more, in_last_thread, named_by, statement_at, with_statement}
+use Rattle.sb_scripttext.specs.declared.drafts.Draft.{Draft}
 use Rattle.sb_scripttext.specs.Lines.{add_target, add_thread, at_start, heading, is_target_named, line_of, misplaced, new_name_at, not_here, patience, plain_line, policy_at, set_patience, start_line, statement_line}
 use Rattle.sb_scripttext.specs.Openings.{can_place}
 use Rattle.sb_scripttext.specs.ScriptTexts.{Absence, ScriptFault, absence_fault, grammar, absence, first_absence, finished}
@@ -61,7 +62,7 @@ pub record Laws : Type 0 where
 
 -- a line
 
-line_read : Laws → (policies : List Policy) (sofar more : SoFar) (n : ℕ) (tokens : List Lexeme) (lines : List (List Lexeme)) → is_plain_line tokens ≡ true
+line_read : Laws → (policies : List Policy) (sofar more : Draft) (n : ℕ) (tokens : List Lexeme) (lines : List (List Lexeme)) → is_plain_line tokens ≡ true
     → line_of policies sofar n (placed tokens) ≡ Ok more
     → read_lines (grammar policies) 1 sofar (numbered n (tokens ∷ lines)) ≡ read_lines (grammar policies) 1 more (numbered (n + 1) lines)
 unfolding read_lines
@@ -71,12 +72,12 @@ line_read laws policies sofar more n tokens lines p e =
     ∙ ap (λ r. on_line by_tokens here r >>= λ more. read_lines (grammar policies) 1 more (numbered (n + 1) lines)) e
 
 -- what is read up to some line, and what is read on from there
-abbrev Continues : List Policy → SoFar → ℕ → List (List Lexeme) → SoFar → ℕ → Type 0
+abbrev Continues : List Policy → Draft → ℕ → List (List Lexeme) → Draft → ℕ → Type 0
 Continues policies old n lines new m = (rest : List (List Lexeme))
     → read_lines (grammar policies) 1 old (numbered n (lines ++ rest)) ≡ read_lines (grammar policies) 1 new (numbered m rest)
 
 -- lines after others
-joined : (policies : List Policy) (old middle new : SoFar) (n m k : ℕ) (front lines : List (List Lexeme))
+joined : (policies : List Policy) (old middle new : Draft) (n m k : ℕ) (front lines : List (List Lexeme))
     → Continues policies old n front middle m → Continues policies middle m lines new k → Continues policies old n (front ++ lines) new k
 joined policies old middle new n m k front lines f g rest =
     ap (λ all. read_lines (grammar policies) 1 old (numbered n all)) (append_assoc front lines rest) ∙ f (lines ++ rest) ∙ g rest
@@ -106,7 +107,7 @@ few k most h = grind (arith, nat_tests)
 abbrev then_patience : ℕ × Lexemes → Result ℕ (TokenFault ScriptKind)
 then_patience number = end_at (UnknownWord Extra) (UnknownWord Broken) number.1 >>= λ end. Ok number.0
 
-abbrev patient : ℕ → Result SoFar (TokenFault ScriptKind)
+abbrev patient : ℕ → Result Draft (TokenFault ScriptKind)
 patient n = Ok (with_patience nothing n)
 
 patience_read : Texts → (n : ℕ) → is_patience n ≡ true → patience (placed (number_token n ∷ [])) ≡ Ok n
@@ -122,11 +123,11 @@ patience_line laws policies line n h = ap (λ (r : Result ℕ (TokenFault Script
 -- opening lines
 
 -- what is there before the first target
-abbrev opening : ℕ → List StartLine → SoFar
+abbrev opening : ℕ → List StartLine → Draft
 opening n start = record { patience = Some n; start = start; targets = []; named = [] }
 
 -- what an opening line with these tokens after its first adds
-abbrev starting : Lexemes → Lexemes → SoFar → StartLine → Result SoFar (TokenFault ScriptKind)
+abbrev starting : Lexemes → Lexemes → Draft → StartLine → Result Draft (TokenFault ScriptKind)
 starting line tokens sofar start = at_start line tokens (with_start sofar start)
 
 -- an opening line is read by its reader
@@ -140,7 +141,7 @@ start_by policies n line before (Key name) = refl
 start_by policies n line before (Event name kind initial) = refl
 
 -- an opening line that can be placed, if there is room for one more
-abbrev started : Lexemes → Lexemes → ℕ → List StartLine → StartLine → Bool → Bool → Result SoFar (TokenFault ScriptKind)
+abbrev started : Lexemes → Lexemes → ℕ → List StartLine → StartLine → Bool → Bool → Result Draft (TokenFault ScriptKind)
 started line tokens n before start place room = at_start line tokens (cond place (cond room (Ok (opening n (before ++ start ∷ []))) (Err (TooMany Openings))) (Err (BadStart (start_fault before start))))
 
 start_line_read : Texts → (policies : List Policy) (n line : ℕ) (before : List StartLine) (start : StartLine) → is_start start ≡ true
@@ -175,7 +176,7 @@ starts_read laws policies n line before (start ∷ lines) h w p l =
 -- inside a target
 
 -- below the heading of a target that follows what was so far there
-abbrev inside : SoFar → TargetScript → List (List Statement) → List Named → SoFar
+abbrev inside : Draft → TargetScript → List (List Statement) → List Named → Draft
 inside sofar target threads named = record {
   patience = sofar.patience;
   start = sofar.start;
@@ -184,10 +185,10 @@ inside sofar target threads named = record {
 }
 
 -- the targets with the last one changed, and the threads and the statements of that
-abbrev with_targets : SoFar → List Named → Result (List TargetScript) ScriptKind → Result SoFar ScriptKind
+abbrev with_targets : Draft → List Named → Result (List TargetScript) ScriptKind → Result Draft ScriptKind
 with_targets sofar named r = r >>= λ targets. Ok (record sofar { targets = targets; named = named })
 
-abbrev with_last : SoFar → Result TargetScript ScriptKind → Result (List TargetScript) ScriptKind
+abbrev with_last : Draft → Result TargetScript ScriptKind → Result (List TargetScript) ScriptKind
 with_last sofar r = r >>= λ changed. Ok (sofar.targets ++ changed ∷ [])
 
 abbrev with_its_threads : TargetScript → Result (List (List Statement)) ScriptKind → Result TargetScript ScriptKind
@@ -198,36 +199,36 @@ with_last_thread threads r = r >>= λ changed. Ok (threads ++ changed ∷ [])
 
 -- statements
 
-in_thread : (sofar : SoFar) (target : TargetScript) (threads : List (List Statement)) (before : List Statement) (named : List Named)
+in_thread : (sofar : Draft) (target : TargetScript) (threads : List (List Statement)) (before : List Statement) (named : List Named)
     → is_in_thread (inside sofar target (threads ++ before ∷ []) named) ≡ true
 in_thread sofar target threads before named =
     ap (λ threads. not (is_empty threads)) (last_behind sofar.targets (record target { threads = threads ++ before ∷ [] })) ∙ ap not (some_behind threads before)
 
 -- what a statement with these tokens after its first adds
-abbrev stating : Lexemes → Lexemes → SoFar → ℕ → Statement → Result SoFar (TokenFault ScriptKind)
+abbrev stating : Lexemes → Lexemes → Draft → ℕ → Statement → Result Draft (TokenFault ScriptKind)
 stating line tokens sofar number statement = at_token line (with_statement sofar (statement_at number tokens) statement)
 
 -- in a thread a line is a statement
-plain_in_thread : (w : List ℕ) (sofar : SoFar) (number : ℕ) (line tokens : Lexemes) → is_in_thread sofar ≡ true
+plain_in_thread : (w : List ℕ) (sofar : Draft) (number : ℕ) (line tokens : Lexemes) → is_in_thread sofar ≡ true
     → plain_line w sofar number line tokens ≡ (statement_line w line tokens >>= stating line tokens sofar number)
 unfolding plain_line
 plain_in_thread w sofar number line tokens h =
     by (is_in_thread sofar) (statement_line w line tokens >>= stating line tokens sofar number)
     (cond (is_opening sofar) (start_line w line tokens >>= starting line tokens sofar) (not_here w line)) h
   where
-    by : (t : Bool) (a b : Result SoFar (TokenFault ScriptKind)) → t ≡ true → cond t a b ≡ a
+    by : (t : Bool) (a b : Result Draft (TokenFault ScriptKind)) → t ≡ true → cond t a b ≡ a
     by true a b h = refl
     by false a b h = absurd (false≢true h)
 
 -- a statement is read by its reader
 
 -- what the line of a statement adds, if it is read as it was written
-abbrev read_by_reader : SoFar → ℕ → Statement → Result SoFar (TokenFault ScriptKind)
+abbrev read_by_reader : Draft → ℕ → Statement → Result Draft (TokenFault ScriptKind)
 read_by_reader sofar number statement =
     statement_reader statement (placed (statement_tokens statement)) (later (placed (statement_tokens statement)))
     >>= stating (placed (statement_tokens statement)) (later (placed (statement_tokens statement))) sofar number
 
-statement_by : (policies : List Policy) (sofar : SoFar) (number : ℕ) (statement : Statement) → is_in_thread sofar ≡ true
+statement_by : (policies : List Policy) (sofar : Draft) (number : ℕ) (statement : Statement) → is_in_thread sofar ≡ true
     → line_of policies sofar number (placed (statement_tokens statement)) ≡ read_by_reader sofar number statement
 unfolding line_of statement_line
 statement_by policies sofar number (Call tag args) h =
@@ -246,11 +247,11 @@ abbrev written_at : ℕ → Statement → StatementAt
 written_at number statement = statement_at number (later (placed (statement_tokens statement)))
 
 -- the last thread has one statement more
-abbrev told_more : SoFar → TargetScript → List (List Statement) → List Statement → List Named → Statement → Bool → Result SoFar ScriptKind
+abbrev told_more : Draft → TargetScript → List (List Statement) → List Statement → List Named → Statement → Bool → Result Draft ScriptKind
 told_more sofar target threads before named statement room =
     with_targets sofar named (with_last sofar (with_its_threads target (with_last_thread threads (cond room (Ok (before ++ statement ∷ [])) (Err (TooMany Statements))))))
 
-statement_told : (sofar : SoFar) (target : TargetScript) (threads : List (List Statement)) (before : List Statement) (named : List Named)
+statement_told : (sofar : Draft) (target : TargetScript) (threads : List (List Statement)) (before : List Statement) (named : List Named)
     (at : StatementAt) (statement : Statement) → nat_lt (length before) 4096 ≡ true
     → with_statement (inside sofar target (threads ++ before ∷ []) named) at statement
     ≡ Ok (inside sofar target (threads ++ (before ++ statement ∷ []) ∷ []) (named ++ named_by at statement))
@@ -260,7 +261,7 @@ statement_told sofar target threads before named at statement l =
     ∙ ap (λ r. with_targets sofar names (with_last sofar (with_its_threads target r))) (changed_behind (one_statement_more statement) threads before)
     ∙ ap (told_more sofar target threads before names statement) l
 
-statement_line_read : Texts → (policies : List Policy) (all : List TargetScript) (sofar : SoFar) (target : TargetScript) (threads : List (List Statement))
+statement_line_read : Texts → (policies : List Policy) (all : List TargetScript) (sofar : Draft) (target : TargetScript) (threads : List (List Statement))
     (before : List Statement) (named : List Named) (line : ℕ) (statement : Statement) → AreSound all → is_statement all statement ≡ true
     → is_writable_statement statement ≡ true → nat_lt (length before) 4096 ≡ true
     → line_of policies (inside sofar target (threads ++ before ∷ []) named) line (placed (statement_tokens statement))
@@ -273,13 +274,13 @@ statement_line_read law policies all sofar target threads before named line stat
     ∙ ap (at_token first) (statement_told sofar target threads before named (written_at line statement) statement l)
 
 -- if lines lead: all that is named is there
-record Leads (policies : List Policy) (all : List TargetScript) (old : SoFar) (line : ℕ) (lines : List (List Lexeme)) (new : List Named → SoFar) : Type 0 where
+record Leads (policies : List Policy) (all : List TargetScript) (old : Draft) (line : ℕ) (lines : List (List Lexeme)) (new : List Named → Draft) : Type 0 where
   names : List Named
   next : ℕ
   there : first_absence all names ≡ None
   reads : Continues policies old line lines (new names) next
 
-statements_read : Laws → (policies : List Policy) (all : List TargetScript) (sofar : SoFar) (target : TargetScript) (threads : List (List Statement))
+statements_read : Laws → (policies : List Policy) (all : List TargetScript) (sofar : Draft) (target : TargetScript) (threads : List (List Statement))
     (before : List Statement) (named : List Named) (line : ℕ) (more : List Statement) → AreSound all → list_all (is_statement all) more ≡ true
     → list_all is_writable_statement more ≡ true → length before + length more ≤ 4096 → first_absence all named ≡ None
     → Leads policies all (inside sofar target (threads ++ before ∷ []) named) line (map statement_tokens more) (inside sofar target (threads ++ (before ++ more) ∷ []))
@@ -311,11 +312,11 @@ statements_read laws policies all sofar target threads before named line (statem
 -- threads
 
 -- a target with one thread more
-abbrev begun : SoFar → TargetScript → List (List Statement) → List Named → Bool → Result SoFar ScriptKind
+abbrev begun : Draft → TargetScript → List (List Statement) → List Named → Bool → Result Draft ScriptKind
 begun sofar target threads named room =
     with_targets sofar named (with_last sofar (cond room (Ok (record target { threads = threads ++ [] ∷ [] })) (Err (TooMany Threads))))
 
-thread_line : (policies : List Policy) (sofar : SoFar) (target : TargetScript) (threads : List (List Statement)) (named : List Named) (line : ℕ)
+thread_line : (policies : List Policy) (sofar : Draft) (target : TargetScript) (threads : List (List Statement)) (named : List Named) (line : ℕ)
     → nat_lt (length threads) 4 ≡ true
     → line_of policies (inside sofar target threads named) line (placed (Word (codes "thread") ∷ [])) ≡ Ok (inside sofar target (threads ++ [] ∷ []) named)
 unfolding line_of add_thread
@@ -325,7 +326,7 @@ thread_line policies sofar target threads named line l =
     ap (λ t. cond t (misplaced first) (at_token first (with_thread (inside sofar target threads named)))) (some_behind sofar.targets here)
     ∙ ap (at_token first) (ap (with_targets sofar named) (changed_behind one_thread_more sofar.targets here) ∙ ap (begun sofar target threads named) l)
 
-threads_read : Laws → (policies : List Policy) (all : List TargetScript) (sofar : SoFar) (target : TargetScript) (threads : List (List Statement))
+threads_read : Laws → (policies : List Policy) (all : List TargetScript) (sofar : Draft) (target : TargetScript) (threads : List (List Statement))
     (named : List Named) (line : ℕ) (more : List (List Statement)) → AreSound all → list_all (is_thread all) more ≡ true
     → list_all is_writable_thread more ≡ true → length threads + length more ≤ 4 → first_absence all named ≡ None
     → Leads policies all (inside sofar target threads named) line (flat_map thread_lines more) (inside sofar target (threads ++ more))
@@ -402,10 +403,10 @@ heading_read law policies targets target named judged short new channels =
     by_tests true true e f = absurd (false≢true (sym f))
     by_tests false taken e f = absurd (false≢true e)
 
-abbrev headed_below : Lexemes → SoFar → TargetScript → Bool → Result SoFar (TokenFault ScriptKind)
+abbrev headed_below : Lexemes → Draft → TargetScript → Bool → Result Draft (TokenFault ScriptKind)
 headed_below line sofar target room = at_token line (cond room (Ok (inside sofar target [] sofar.named)) (Err (TooMany Targets)))
 
-heading_line : Texts → (policies : List Policy) (sofar : SoFar) (line : ℕ) (target : TargetScript)
+heading_line : Texts → (policies : List Policy) (sofar : Draft) (line : ℕ) (target : TargetScript)
     → AreNamed policies → is_judged (length policies) target ≡ true → is_short_name target.name ≡ true
     → list_any (is_target_named target.name) sofar.targets ≡ false → (nat_le 1 target.channels && nat_le target.channels 8) ≡ true
     → nat_lt (length sofar.targets) 8 ≡ true
@@ -429,9 +430,9 @@ new_more : (done : List TargetScript) (last : TargetScript) (targets : List Targ
     → list_any (is_target_named last.name) targets ≡ false → are_new (done ++ last ∷ []) targets ≡ true
 new_more done last [] h k = refl
 new_more done last (target ∷ targets) h k =
-    let parts = or_false (is_target_named last.name target) (list_any (is_target_named last.name) targets) k in
+    let parts = or_parts (is_target_named last.name target) (list_any (is_target_named last.name) targets) k in
     let new = and_parts (not (list_any (is_target_named target.name) done)) (are_new done targets) h in
-    both _ _
+    and_from _ _
     (ap not (list_any-append (is_target_named target.name) done (last ∷ []))
     ∙ neither (list_any (is_target_named target.name) done) (pointwise nat_eq last.name target.name) (not_true _ new.0) (names_symm last.name target.name ∙ parts.0))
     (new_more done last targets new.1 parts.1)
@@ -450,10 +451,10 @@ record AreWhole (policies : List Policy) (all targets : List TargetScript) : Typ
   differ : names_differ targets ≡ true
 
 -- what was there, with these targets and names
-abbrev followed : SoFar → List TargetScript → List Named → SoFar
+abbrev followed : Draft → List TargetScript → List Named → Draft
 followed sofar targets named = record sofar { targets = sofar.targets ++ targets; named = named }
 
-targets_read : Laws → (policies : List Policy) (all : List TargetScript) (sofar : SoFar) (line : ℕ) (targets : List TargetScript)
+targets_read : Laws → (policies : List Policy) (all : List TargetScript) (sofar : Draft) (line : ℕ) (targets : List TargetScript)
     → AreNamed policies → AreSound all → AreWhole policies all targets → are_new sofar.targets targets ≡ true
     → length sofar.targets + length targets ≤ 8 → first_absence all sofar.named ≡ None
     → Leads policies all sofar line (flat_map (target_lines policies) targets) (followed sofar targets)
@@ -512,7 +513,7 @@ lines_read laws policies text script named whole opens differ =
     let targets = targets_read laws policies script.targets (opening n script.start) starts.0 script.targets named whole.targets
     (record { sound = whole.targets.sound; judged = whole.judged; writable = whole.writable_targets; differ = differ }) (new_to_none script.targets)
     (few (length script.targets) 8 whole.targets.few) refl in
-    ap (λ (r : Result SoFar ScriptFault). r >>= λ sofar. finished text sofar)
+    ap (λ (r : Result Draft ScriptFault). r >>= λ sofar. finished text sofar)
     (line_read laws policies nothing (with_patience nothing n) 2 (patience_tokens n) (map start_tokens script.start ++ targets_lines)
     (patience_plain laws.texts n whole.patience) (patience_line laws policies 2 n whole.patience)
     ∙ starts.1 targets_lines

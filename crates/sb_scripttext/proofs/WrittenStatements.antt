@@ -19,7 +19,7 @@ use Rattle.sb_statements.specs.declared.statements.Statement.TheVariants.{Call, 
 use Rattle.sb_statements.specs.declared.statements.Word as words
 use Rattle.sb_scripttext.proofs.WrittenWords.{Texts, at_most, number_read, within_read, short_read, place_read, string_read, name_read, tag_read}
 use Rattle.sb_scripttext.specs.Arguments.{most_32, arg_at, args_at, fitting, call}
-use Rattle.sb_scripttext.specs.SoFar.{named_by}
+use Rattle.sb_scripttext.specs.Drafts.{named_by}
 use Rattle.sb_scripttext.specs.ScriptTexts.{Absence, first_absence, no_channel, no_target}
 use Rattle.sb_scripttext.specs.Statements.{value_at, short_at, place_at, target_word_at, store, exchange, load, wait}
 use Rattle.sb_scripttext.specs.Steps.{within}
@@ -27,7 +27,7 @@ use Rattle.sb_scripttext.specs.Writable.{is_writable_arg, is_writable_statement}
 use Rattle.sb_base.specs.Numbers.{is_word64}
 use Rattle.sb_scripttext.specs.Writing.{number_token, place_word, arg_token, word_tokens, statement_tokens}
 use Rattle.sb_scripttext.specs.declared.faults.ScriptKind.{ScriptKind}
-use Rattle.sb_scripttext.specs.declared.faults.ScriptKind.TheVariants.{UnknownWord, WrongArgs, BadNumber, TooBig}
+use Rattle.sb_scripttext.specs.declared.faults.ScriptKind.TheVariants.{UnknownWord, WrongArgs, BadNumber, OutOfRange, TooBig}
 use Rattle.sb_text.specs.Steps.{◌>>=◌, Read, at_token, later, end_at}
 use Rattle.sb_text.specs.TokenLaws.{placed}
 use Rattle.sb_text.specs.Tokens.{Lexeme, Lexemes, Word}
@@ -174,7 +174,7 @@ abbrev then_waited : (ℕ × words.Word) × Lexemes → Result Statement (TokenF
 then_waited word = value_at word.1 >>= with_value word.0.0 word.0.1
 
 abbrev waited_within : Lexemes → ℕ → words.Word → ℕ → ℕ → Bool → Result Statement (TokenFault ScriptKind)
-waited_within due target word value most t = at_token due (cond t (Ok most) (Err BadNumber)) >>= λ most. Ok (Wait target word value most)
+waited_within due target word value most t = at_token due (cond t (Ok most) (Err (OutOfRange 1 1000000))) >>= λ most. Ok (Wait target word value most)
 
 pub patience_number : (n : ℕ) → is_patience n ≡ true → is_word64 n ≡ true
 patience_number n h = grind (arith, nat_tests)

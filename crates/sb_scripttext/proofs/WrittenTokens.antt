@@ -2,7 +2,7 @@
 use Rattle.std.proofs.Common.{◌≡◌, ◌∙◌, ℕ, zero, suc, ◌^◌, ◌<◌, nat_le, nat_lt, Bool, true, ◌&&◌, List, [], ◌∷◌, length, map, refl, arith}
 use Rattle.std.specs.Fmt.{decimal}
 use Rattle.std.specs.List.{flat_map, list_all}
-use Rattle.std.proofs.lemmas.Bool.{and_parts, false≢true}
+use Rattle.std.proofs.lemmas.Bool.{and_parts, false≢true, and_from}
 use Rattle.std.proofs.lemmas.Bool.Decides.{nat_tests}
 use Rattle.std.proofs.lemmas.List.Folds.{list_all-append}
 use Rattle.std.proofs.lemmas.Str.{is_utf8-from_IsUtf8}
@@ -21,7 +21,6 @@ use Rattle.sb_statements.specs.declared.scripts.TargetScript.{TargetScript}
 use Rattle.sb_statements.specs.declared.statements.Statement.{Statement}
 use Rattle.sb_statements.specs.declared.statements.Statement.TheVariants.{Call, Store, Exchange, Load, Wait}
 use Rattle.sb_statements.specs.declared.statements.Word as words
-use Rattle.sb_scripttext.proofs.Sound.{both}
 use Rattle.sb_text.specs.PlainLines.{is_plain_byte, is_plain, is_plain_line}
 use Rattle.sb_scripttext.proofs.WrittenOpenings.{few_attributes, bit_number}
 use Rattle.sb_scripttext.proofs.WrittenStatements.{AreSound, IsNamed, named_there, patience_number}
@@ -39,7 +38,7 @@ use Rattle.sb_base.specs.Names.{is_name_of}
 
 all_more : {A : Type 0} (p q : A → Bool) → ((x : A) → p x ≡ true → q x ≡ true) → (xs : List A) → list_all p xs ≡ true → list_all q xs ≡ true
 all_more p q f [] h = refl
-all_more p q f (x ∷ xs) h = both _ _ (f x (and_parts _ _ h).0) (all_more p q f xs (and_parts _ _ h).1)
+all_more p q f (x ∷ xs) h = and_from _ _ (f x (and_parts _ _ h).0) (all_more p q f xs (and_parts _ _ h).1)
 
 digit_plain : (b : ℕ) → is_decimal_digit b ≡ true → is_plain_byte b ≡ true
 digit_plain b h = grind (arith, nat_tests)
@@ -86,50 +85,50 @@ call_plain HandleClose = refl
 -- strings
 
 string_plain : Texts → (us : List ℕ) → is_text us ≡ true → is_plain (string_token us) ≡ true
-string_plain law us h = let s = string_back law us h in both _ _ s.quoted (is_utf8-from_IsUtf8 (utf8_of us) s.utf8)
+string_plain law us h = let s = string_back law us h in and_from _ _ s.quoted (is_utf8-from_IsUtf8 (utf8_of us) s.utf8)
 
 -- opening lines
 
 pub start_plain : Texts → (line : StartLine) → is_start line ≡ true → is_writable_start line ≡ true → is_plain_line (start_tokens line) ≡ true
-start_plain law (Dir name) h w = both _ _ (string_plain law name w) refl
+start_plain law (Dir name) h w = and_from _ _ (string_plain law name w) refl
 start_plain law (File name attributes) h w =
     let few = few_attributes attributes (and_parts (is_name_of name) (nat_lt attributes (2 ^ 32)) h).1 in
-    both _ _ (string_plain law name w) (both _ _ (number_plain law attributes (short_number attributes few)) refl)
-start_plain law (Key name) h w = both _ _ (string_plain law name w) refl
+    and_from _ _ (string_plain law name w) (and_from _ _ (number_plain law attributes (short_number attributes few)) refl)
+start_plain law (Key name) h w = and_from _ _ (string_plain law name w) refl
 start_plain law (Event name kind initial) h w =
     let parts = and_parts (is_name_of name && nat_le kind 1) (nat_le initial 1) h in
     let first = and_parts (is_name_of name) (nat_le kind 1) parts.0 in
-    both _ _ (string_plain law name w)
-    (both _ _ (number_plain law kind (bit_number kind first.1)) (both _ _ (number_plain law initial (bit_number initial parts.1)) refl))
+    and_from _ _ (string_plain law name w)
+    (and_from _ _ (number_plain law kind (bit_number kind first.1)) (and_from _ _ (number_plain law initial (bit_number initial parts.1)) refl))
 
 starts_plain : Texts → (lines : List StartLine) → list_all is_start lines ≡ true → list_all is_writable_start lines ≡ true
     → list_all is_plain_line (map start_tokens lines) ≡ true
 starts_plain law [] h w = refl
 starts_plain law (line ∷ lines) h w =
-    both _ _ (start_plain law line (and_parts _ _ h).0 (and_parts _ _ w).0) (starts_plain law lines (and_parts _ _ h).1 (and_parts _ _ w).1)
+    and_from _ _ (start_plain law line (and_parts _ _ h).0 (and_parts _ _ w).0) (starts_plain law lines (and_parts _ _ h).1 (and_parts _ _ w).1)
 
 -- statements
 
 args_plain : Texts → (args : List Arg) → list_all is_writable_arg args ≡ true → list_all is_plain (map arg_token args) ≡ true
 args_plain law [] w = refl
-args_plain law (arg.Str text ∷ args) w = both _ _ (string_plain law text (and_parts _ _ w).0) (args_plain law args (and_parts _ _ w).1)
-args_plain law (arg.Num number ∷ args) w = both _ _ (number_plain law number (and_parts _ _ w).0) (args_plain law args (and_parts _ _ w).1)
+args_plain law (arg.Str text ∷ args) w = and_from _ _ (string_plain law text (and_parts _ _ w).0) (args_plain law args (and_parts _ _ w).1)
+args_plain law (arg.Num number ∷ args) w = and_from _ _ (number_plain law number (and_parts _ _ w).0) (args_plain law args (and_parts _ _ w).1)
 
 word_plain : Texts → (target : ℕ) (word : words.Word) (tokens : List Lexeme) → IsNamed target word → list_all is_plain tokens ≡ true
     → list_all is_plain (word_tokens target word.channel word.at tokens) ≡ true
 word_plain law target word tokens n t =
-    both _ _ (number_plain law target (short_number target n.short_target))
-    (both _ _ (number_plain law word.channel (short_number word.channel n.short_channel)) (both _ _ (place_plain law word.at n.place) t))
+    and_from _ _ (number_plain law target (short_number target n.short_target))
+    (and_from _ _ (number_plain law word.channel (short_number word.channel n.short_channel)) (and_from _ _ (place_plain law word.at n.place) t))
 
 value_plain : Texts → (value : ℕ) → is_word64 value ≡ true → list_all is_plain (number_token value ∷ []) ≡ true
-value_plain law value h = both _ _ (number_plain law value h) refl
+value_plain law value h = and_from _ _ (number_plain law value h) refl
 
 values_plain : Texts → (one two : ℕ) → is_word64 one ≡ true → is_word64 two ≡ true → list_all is_plain (number_token one ∷ number_token two ∷ []) ≡ true
-values_plain law one two h k = both _ _ (number_plain law one h) (value_plain law two k)
+values_plain law one two h k = and_from _ _ (number_plain law one h) (value_plain law two k)
 
 pub statement_plain : Texts → (targets : List TargetScript) (statement : Statement) → AreSound targets → is_statement targets statement ≡ true
     → is_writable_statement statement ≡ true → is_plain_line (statement_tokens statement) ≡ true
-statement_plain law targets (Call tag args) s h w = both _ _ (call_plain tag) (args_plain law args w)
+statement_plain law targets (Call tag args) s h w = and_from _ _ (call_plain tag) (args_plain law args w)
 statement_plain law targets (Store target word value) s h w =
     word_plain law target word (number_token value ∷ []) (named_there targets target word s h) (value_plain law value w)
 statement_plain law targets (Exchange target word old new) s h w =
@@ -146,7 +145,7 @@ statements_plain : Texts → (targets : List TargetScript) (statements : List St
     → list_all is_plain_line (map statement_tokens statements) ≡ true
 statements_plain law targets [] s h w = refl
 statements_plain law targets (statement ∷ statements) s h w =
-    both _ _ (statement_plain law targets statement s (and_parts _ _ h).0 (and_parts _ _ w).0)
+    and_from _ _ (statement_plain law targets statement s (and_parts _ _ h).0 (and_parts _ _ w).0)
     (statements_plain law targets statements s (and_parts _ _ h).1 (and_parts _ _ w).1)
 
 threads_plain : Texts → (targets : List TargetScript) (threads : List (List Statement)) → AreSound targets
@@ -156,7 +155,7 @@ threads_plain law targets [] s h w = refl
 threads_plain law targets (statements ∷ threads) s h w =
     let sound = (and_parts (is_thread targets statements) (list_all (is_thread targets) threads) h).0 in
     list_all-append is_plain_line (thread_lines statements) (flat_map thread_lines threads)
-    ∙ both _ _ (statements_plain law targets statements s (and_parts _ _ sound).1 (and_parts _ _ w).0)
+    ∙ and_from _ _ (statements_plain law targets statements s (and_parts _ _ sound).1 (and_parts _ _ w).0)
     (threads_plain law targets threads s (and_parts _ _ h).1 (and_parts _ _ w).1)
 
 -- targets
@@ -180,15 +179,15 @@ sound_target all target h =
     record { channels = first.0; few = first.1; threads = parts.1 }
 
 pub patience_plain : Texts → (n : ℕ) → is_patience n ≡ true → is_plain_line (patience_tokens n) ≡ true
-patience_plain law n h = both _ _ (number_plain law n (patience_number n h)) refl
+patience_plain law n h = and_from _ _ (number_plain law n (patience_number n h)) refl
 
 pub heading_plain : Texts → (policies : List Policy) (target : TargetScript) → are_short_named policies ≡ true
     → is_judged (length policies) target ≡ true → is_short_name target.name ≡ true → (nat_le 1 target.channels && nat_le target.channels 8) ≡ true
     → is_plain_line (heading_tokens policies target) ≡ true
 heading_plain law policies target p j n c =
     let channels = channels_number target.channels (and_parts (nat_le 1 target.channels) (nat_le target.channels 8) c).1 in
-    both _ _ (name_plain target.name n)
-    (both _ _ (policy_plain policies target.policy p (below target.policy (length policies) j)) (both _ _ (number_plain law target.channels channels) refl))
+    and_from _ _ (name_plain target.name n)
+    (and_from _ _ (policy_plain policies target.policy p (below target.policy (length policies) j)) (and_from _ _ (number_plain law target.channels channels) refl))
 
 target_plain : Texts → (policies : List Policy) (all : List TargetScript) (target : TargetScript) → are_short_named policies ≡ true → AreSound all
     → is_target all target ≡ true → is_judged (length policies) target ≡ true → is_writable_target target ≡ true
@@ -196,7 +195,7 @@ target_plain : Texts → (policies : List Policy) (all : List TargetScript) (tar
 target_plain law policies all target p s h j w =
     let sound = sound_target all target h in
     let parts = and_parts (is_short_name target.name) (list_all is_writable_thread target.threads) w in
-    both _ _ (heading_plain law policies target p j parts.0 sound.channels)
+    and_from _ _ (heading_plain law policies target p j parts.0 sound.channels)
     (threads_plain law all target.threads s sound.threads parts.1)
 
 targets_plain : Texts → (policies : List Policy) (all targets : List TargetScript) → are_short_named policies ≡ true → AreSound all
@@ -205,7 +204,7 @@ targets_plain : Texts → (policies : List Policy) (all targets : List TargetScr
 targets_plain law policies all [] p s h j w = refl
 targets_plain law policies all (target ∷ targets) p s h j w =
     list_all-append is_plain_line (target_lines policies target) (flat_map (target_lines policies) targets)
-    ∙ both _ _ (target_plain law policies all target p s (and_parts _ _ h).0 (and_parts (is_judged (length policies) target) (list_all (is_judged (length policies)) targets) j).0 (and_parts _ _ w).0)
+    ∙ and_from _ _ (target_plain law policies all target p s (and_parts _ _ h).0 (and_parts (is_judged (length policies) target) (list_all (is_judged (length policies)) targets) j).0 (and_parts _ _ w).0)
     (targets_plain law policies all targets p s (and_parts _ _ h).1 (and_parts (is_judged (length policies) target) (list_all (is_judged (length policies)) targets) j).1 (and_parts _ _ w).1)
 
 -- what a script that can be written has
@@ -222,7 +221,7 @@ pub record IsWhole (policies : List Policy) (script : Script) : Type 0 where
 pub script_plain : Texts → (policies : List Policy) (script : Script) → are_short_named policies ≡ true → IsWhole policies script
     → list_all is_plain_line (script_lines policies script) ≡ true
 script_plain law policies script p s =
-    both _ _ (patience_plain law script.patience s.patience)
+    and_from _ _ (patience_plain law script.patience s.patience)
     (list_all-append is_plain_line (map start_tokens script.start) (flat_map (target_lines policies) script.targets)
-    ∙ both _ _ (starts_plain law script.start s.starts s.writable_starts)
+    ∙ and_from _ _ (starts_plain law script.start s.starts s.writable_starts)
     (targets_plain law policies script.targets script.targets p s.targets s.targets.sound s.judged s.writable_targets))

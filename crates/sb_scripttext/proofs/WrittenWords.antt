@@ -4,7 +4,7 @@ use Rattle.std.specs.Cmp.{nat_eq_equiv, partial_equiv_from_equiv}
 use Rattle.std.specs.Cmp.Lexicographic.{pointwise, lists_per, bytes_decides}
 use Rattle.std.specs.Fmt.{decimal}
 use Rattle.std.specs.List.{list_all, list_any, position_or_len}
-use Rattle.std.proofs.lemmas.Bool.{and_parts, false≢true}
+use Rattle.std.proofs.lemmas.Bool.{and_parts, false≢true, or_parts}
 use Rattle.std.proofs.lemmas.Bool.Decides.{nat_tests}
 use Rattle.sb_call.specs.CallWords.{is_word, call_word, tag_of_word}
 use Rattle.sb_call.specs.declared.tags.CallTag.{CallTag}
@@ -19,7 +19,7 @@ use Rattle.sb_scripttext.specs.Steps.{number_at, within, number_within, string_a
 use Rattle.sb_base.specs.Numbers.{is_word64}
 use Rattle.sb_scripttext.specs.Writing.{number_token, place_word, policy_name}
 use Rattle.sb_scripttext.specs.declared.faults.ScriptKind.{ScriptKind}
-use Rattle.sb_scripttext.specs.declared.faults.ScriptKind.TheVariants.{UnknownCall, WrongArgs, BadNumber, BadName, NoSuchPolicy, NoSuchWord}
+use Rattle.sb_scripttext.specs.declared.faults.ScriptKind.TheVariants.{UnknownCall, WrongArgs, BadNumber, OutOfRange, BadName, NoSuchPolicy, NoSuchWord}
 use Rattle.sb_text.specs.NumberLaws.{DecimalsAreRead}
 use Rattle.sb_text.specs.Numbers.{is_decimal_digit, are_digits, number_of}
 use Rattle.sb_text.specs.Steps.{◌>>=◌, Read, at_token, or_fails, or_fault}
@@ -63,15 +63,15 @@ abbrev ranged : Lexemes → ℕ → ℕ → ℕ × Lexemes → Read ℕ ScriptKi
 ranged due lo hi n = at_token due (within lo hi n.0) >>= λ number. Ok (number, n.1)
 
 -- a number that is in its range, with the tokens after it
-abbrev in_range : Lexemes → ℕ → Lexemes → Bool → Read ℕ ScriptKind
-in_range due n rest t = at_token due (cond t (Ok n) (Err BadNumber)) >>= λ number. Ok (number, rest)
+abbrev in_range : Lexemes → ℕ → ℕ → ℕ → Lexemes → Bool → Read ℕ ScriptKind
+in_range due lo hi n rest t = at_token due (cond t (Ok n) (Err (OutOfRange lo hi))) >>= λ number. Ok (number, rest)
 
 pub within_read : Texts → (lo hi : ℕ) (quoted missing : ScriptKind) (n : ℕ) (rest : List Lexeme) → is_word64 n ≡ true
     → (nat_le lo n && nat_le n hi) ≡ true → number_within lo hi quoted missing (placed (number_token n ∷ rest)) ≡ Ok (n, placed rest)
 unfolding number_within
 within_read law lo hi quoted missing n rest h k =
     ap (λ (r : Read ℕ ScriptKind). r >>= ranged (placed (number_token n ∷ rest)) lo hi) (number_read law quoted missing n rest h)
-    ∙ ap (in_range (placed (number_token n ∷ rest)) n (placed rest)) k
+    ∙ ap (in_range (placed (number_token n ∷ rest)) lo hi n (placed rest)) k
 
 pub short_number : (n : ℕ) → nat_le n most_32 ≡ true → is_word64 n ≡ true
 short_number n h = grind (arith, nat_tests)
@@ -189,16 +189,12 @@ is_itself w = (bytes_decides w w).1 refl
 pub names_symm : (a b : List ℕ) → pointwise nat_eq a b ≡ pointwise nat_eq b a
 names_symm = (lists_per (partial_equiv_from_equiv nat_eq_equiv)).symm
 
-pub or_false : (a b : Bool) → (a || b) ≡ false → (a ≡ false) × (b ≡ false)
-or_false false b h = (refl, h)
-or_false true b h = absurd (false≢true (sym h))
-
 -- a name that no policy has is not that of the policy at a place
 other_name : (w : List ℕ) (policies : List Policy) (i : ℕ) → list_any (is_named w) policies ≡ false → i < length policies
     → pointwise nat_eq (policy_name policies i) w ≡ false
 other_name w [] i h k = absurd (omega arith)
-other_name w (policy ∷ policies) zero h k = (or_false (is_named w policy) (list_any (is_named w) policies) h).0
-other_name w (policy ∷ policies) (suc i) h k = other_name w policies i (or_false (is_named w policy) (list_any (is_named w) policies) h).1 (omega arith)
+other_name w (policy ∷ policies) zero h k = (or_parts (is_named w policy) (list_any (is_named w) policies) h).0
+other_name w (policy ∷ policies) (suc i) h k = other_name w policies i (or_parts (is_named w policy) (list_any (is_named w) policies) h).1 (omega arith)
 
 first_place : (policies : List Policy) (i : ℕ) → are_named_apart policies ≡ true → i < length policies
     → position_or_len (is_named (policy_name policies i)) policies ≡ i

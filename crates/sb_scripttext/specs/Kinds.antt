@@ -1,7 +1,7 @@
 -- The faults of script texts.
 use Rattle.std.specs.Prelude.{ℕ}
 use Rattle.sb_scripttext.specs.declared.faults.ScriptKind.{ScriptKind}
-use Rattle.sb_scripttext.specs.declared.faults.ScriptKind.TheVariants.{NotUtf8, UnknownWord, UnknownCall, WrongArgs, BadNumber, BadName, NoSuchPolicy, NoSuchTarget, NoSuchChannel, NoSuchWord, TooMany, TooBig, SameName, BadStart}
+use Rattle.sb_scripttext.specs.declared.faults.ScriptKind.TheVariants.{NotUtf8, UnknownWord, UnknownCall, WrongArgs, BadNumber, OutOfRange, BadName, NoSuchPolicy, NoSuchTarget, NoSuchChannel, NoSuchWord, TooMany, TooBig, SameName, BadStart}
 
 -- the number of a kind of fault
 abbrev pub kind_number : ScriptKind → ℕ
@@ -10,6 +10,7 @@ kind_number (UnknownWord why) = 2
 kind_number UnknownCall = 3
 kind_number (WrongArgs why) = 4
 kind_number BadNumber = 5
+kind_number (OutOfRange low high) = 5
 kind_number BadName = 6
 kind_number NoSuchPolicy = 7
 kind_number (NoSuchTarget target targets) = 8

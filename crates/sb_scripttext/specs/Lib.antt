@@ -1,6 +1,5 @@
 pub mod Actors
 pub mod Arguments
-pub mod Building
 pub mod Kinds
 pub mod Laws
 pub mod Lines
@@ -15,7 +14,7 @@ pub mod SchedulePrinting
 pub mod SchedulePrintingLaws
 pub mod ScheduleTexts
 pub mod ScriptTexts
-pub mod SoFar
+pub mod Drafts
 pub mod StartFaults
 pub mod StartLaws
 pub mod Statements

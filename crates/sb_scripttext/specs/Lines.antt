@@ -11,7 +11,8 @@ use Rattle.sb_rule.specs.WellMade.{is_named}
 use Rattle.sb_rule.specs.declared.policies.Policy.{Policy}
 use Rattle.sb_statements.specs.Limits.{most_patience, most_channels}
 use Rattle.sb_scripttext.specs.Arguments.{most_32, call}
-use Rattle.sb_scripttext.specs.SoFar.{SoFar, statement_at, is_opening, is_in_thread, with_patience, with_start, with_target, with_thread, with_statement}
+use Rattle.sb_scripttext.specs.Drafts.{statement_at, is_opening, is_in_thread, with_patience, with_start, with_target, with_thread, with_statement}
+use Rattle.sb_scripttext.specs.declared.drafts.Draft.{Draft}
 use Rattle.sb_scripttext.specs.Openings.{dir, file, key, event}
 use Rattle.sb_scripttext.specs.Statements.{store, exchange, load, wait}
 use Rattle.sb_scripttext.specs.Steps.{number_within}
@@ -110,7 +111,7 @@ at_start line tokens (Ok x) = Ok x
 at_start line tokens (Err kind) = fails (refusing line tokens kind) kind
 
 -- a `patience` line, before the first target and once
-unfoldable pub set_patience : SoFar → Lexemes → Lexemes → Result SoFar (TokenFault ScriptKind)
+unfoldable pub set_patience : Draft → Lexemes → Lexemes → Result Draft (TokenFault ScriptKind)
 set_patience sofar line tokens =
     elim sofar.patience [
       | None ↦ if is_opening sofar then (patience tokens >>= λ n. Ok (with_patience sofar n)) else misplaced line
@@ -118,11 +119,11 @@ set_patience sofar line tokens =
     ]
 
 -- a `target` line
-unfoldable pub add_target : List Policy → SoFar → Lexemes → Lexemes → Result SoFar (TokenFault ScriptKind)
+unfoldable pub add_target : List Policy → Draft → Lexemes → Lexemes → Result Draft (TokenFault ScriptKind)
 add_target policies sofar line tokens = heading policies sofar.targets tokens >>= λ target. at_token line (with_target sofar target)
 
 -- a `thread` line, after a target
-unfoldable pub add_thread : SoFar → Lexemes → Lexemes → Result SoFar (TokenFault ScriptKind)
+unfoldable pub add_thread : Draft → Lexemes → Lexemes → Result Draft (TokenFault ScriptKind)
 add_thread sofar line tokens =
     if is_opening sofar then misplaced line
     else (end_at (UnknownWord Extra) (UnknownWord Broken) tokens >>= λ end. at_token line (with_thread sofar))
@@ -147,7 +148,7 @@ statement_line w line tokens =
     else not_here w line))))
 
 -- in a thread a statement, before the first target an opening line, and elsewhere neither
-unfoldable pub plain_line : List ℕ → SoFar → ℕ → Lexemes → Lexemes → Result SoFar (TokenFault ScriptKind)
+unfoldable pub plain_line : List ℕ → Draft → ℕ → Lexemes → Lexemes → Result Draft (TokenFault ScriptKind)
 plain_line w sofar number line tokens =
     if is_in_thread sofar
     then (statement_line w line tokens >>= λ statement. at_token line (with_statement sofar (statement_at number tokens) statement))
@@ -155,7 +156,7 @@ plain_line w sofar number line tokens =
     else not_here w line)
 
 -- with what a line says: a patience, a target, a thread, an opening line or a statement
-unfoldable pub line_of : List Policy → SoFar → ℕ → Lexemes → Result SoFar (TokenFault ScriptKind)
+unfoldable pub line_of : List Policy → Draft → ℕ → Lexemes → Result Draft (TokenFault ScriptKind)
 line_of policies sofar number line = do
   word ← word_at (UnknownWord Quoted) (UnknownWord Broken) (UnknownWord Missing) line
   if is_word (codes "patience") word.0 then set_patience sofar line word.1

@@ -5,7 +5,7 @@ use Rattle.sb_scripttext.specs.Actors.{actor_of}
 use Rattle.sb_scripttext.specs.ScheduleDrafts.{Drafted, has_rounds, with_step, with_rounds}
 use Rattle.sb_scripttext.specs.ScheduleLimits.{most_steps, most_rounds}
 use Rattle.sb_scripttext.specs.declared.schedule_faults.ScheduleKind.{ScheduleKind}
-use Rattle.sb_scripttext.specs.declared.schedule_faults.ScheduleKind.TheVariants.{UnknownWord, UnknownActor, BadNumber}
+use Rattle.sb_scripttext.specs.declared.schedule_faults.ScheduleKind.TheVariants.{UnknownWord, UnknownActor, BadNumber, OutOfRange}
 use Rattle.sb_statements.specs.declared.schedules.Actor.{Actor}
 use Rattle.sb_statements.specs.declared.scripts.TargetScript.{TargetScript}
 use Rattle.sb_text.specs.Columns.{fails}
@@ -21,7 +21,7 @@ any_word_at words = word_at (UnknownWord Quoted) (UnknownWord Broken) (UnknownWo
 
 -- N from lo to hi
 abbrev pub within : ℕ → ℕ → List ℕ → Result ℕ ScheduleKind
-within lo hi word = elim (number_of word) [ None ↦ Err BadNumber | Some n ↦ if nat_le lo n && nat_le n hi then Ok n else Err BadNumber ]
+within lo hi word = elim (number_of word) [ None ↦ Err BadNumber | Some n ↦ if nat_le lo n && nat_le n hi then Ok n else Err (OutOfRange lo hi) ]
 
 -- N from lo to hi, the last word of its line
 abbrev pub last_number : ℕ → ℕ → Lexemes → Result ℕ (TokenFault ScheduleKind)

@@ -4,7 +4,8 @@ use Rattle.sb_statements.specs.Soundness.{channels_of}
 use Rattle.sb_statements.specs.declared.scripts.Script.{Script}
 use Rattle.sb_statements.specs.declared.scripts.TargetScript.{TargetScript}
 use Rattle.sb_rule.specs.declared.policies.Policy.{Policy}
-use Rattle.sb_scripttext.specs.SoFar.{SoFar, nothing}
+use Rattle.sb_scripttext.specs.Drafts.{nothing}
+use Rattle.sb_scripttext.specs.declared.drafts.Draft.{Draft}
 use Rattle.sb_scripttext.specs.Lines.{line_of}
 use Rattle.sb_text.specs.Steps.{◌>>=◌, version_at}
 use Rattle.sb_scripttext.specs.declared.drafts.Named.{Named}
@@ -32,11 +33,11 @@ abbrev pub script_version : List ℕ → Result ℕ (TokenFault ScriptKind)
 script_version line = version_at (UnknownWord NoVersion) (codes "sandbox-script") 1 (tokens_of line)
 
 -- what was read so far, and what a line adds to it
-abbrev pub add_line : List Policy → SoFar → NumberedLine → Result SoFar (TokenFault ScriptKind)
+abbrev pub add_line : List Policy → Draft → NumberedLine → Result Draft (TokenFault ScriptKind)
 add_line policies sofar line = line_of policies sofar line.number (tokens_of line.text)
 
 -- script texts, for targets of these policies
-abbrev pub grammar : List Policy → Grammar SoFar ScriptKind
+abbrev pub grammar : List Policy → Grammar Draft ScriptKind
 grammar policies = record { layout = by_tokens; version = script_version; no_version = UnknownWord NoVersion; start = nothing; add = λ version. add_line policies }
 
 -- there is no such target among this many
@@ -99,11 +100,11 @@ patience_of (Some n) = n
 patience_of None = usual_patience
 
 -- the script that was read
-abbrev pub script_of : SoFar → Script
+abbrev pub script_of : Draft → Script
 script_of sofar = record { patience = patience_of sofar.patience; start = sofar.start; targets = sofar.targets }
 
 -- the script that was read of a text, if all is there that its statements name
-abbrev pub finished : List ℕ → SoFar → Result Script ScriptFault
+abbrev pub finished : List ℕ → Draft → Result Script ScriptFault
 finished text sofar =
     elim (first_absence sofar.targets sofar.named) [ None ↦ Ok (script_of sofar) | Some absence ↦ Err (absence_fault text absence) ]
 

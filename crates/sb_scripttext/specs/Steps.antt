@@ -1,7 +1,7 @@
 -- Reading a line from left to right: numbers, strings and names.
 use Rattle.std.specs.Prelude.{ℕ, ◌&&◌, nat_le, List, Result, Ok, Err, if◌then◌else◌}
 use Rattle.sb_scripttext.specs.declared.faults.ScriptKind.{ScriptKind}
-use Rattle.sb_scripttext.specs.declared.faults.ScriptKind.TheVariants.{UnknownWord, BadNumber, BadName}
+use Rattle.sb_scripttext.specs.declared.faults.ScriptKind.TheVariants.{UnknownWord, BadNumber, OutOfRange, BadName}
 use Rattle.sb_text.specs.Numbers.{number_of}
 use Rattle.sb_text.specs.Steps.{◌>>=◌, at_token, end_at, or_fails, Read, word_at, quoted_at}
 use Rattle.sb_text.specs.Tokens.{Lexemes, string_of}
@@ -18,7 +18,7 @@ number_at quoted missing tokens = do
 
 -- a number from lo to hi
 abbrev pub within : ℕ → ℕ → ℕ → Result ℕ ScriptKind
-within lo hi n = if nat_le lo n && nat_le n hi then Ok n else Err BadNumber
+within lo hi n = if nat_le lo n && nat_le n hi then Ok n else Err (OutOfRange lo hi)
 
 -- N: a number from lo to hi
 unfoldable pub number_within : ℕ → ℕ → ScriptKind → ScriptKind → Lexemes → Read ℕ ScriptKind

@@ -1,40 +1,25 @@
 // What is so far there of a script, as the reader keeps it.
-ghost use Rattle.std.specs.Prelude.{◌≡◌, ◌++◌, ◌∷◌, [], true, nat_lt, length, is_some, IfOk, OnOk};
+ghost use Rattle.std.specs.Prelude.{◌≡◌, ◌++◌, ◌∷◌, [], true, is_some, OnOk};
 ghost use Rattle.std.specs.List.{list_any};
-ghost use Rattle.sb_statements.specs.Limits.{most_targets};
 ghost use Rattle.sb_kernel.specs.Openings.{is_named, opening};
-ghost use Rattle.sb_scripttext.specs.Building.{target_script, all_threads, built, IsBuilt};
 ghost use Rattle.sb_scripttext.specs.Lines.{is_target_named};
 ghost use Rattle.sb_scripttext.specs.ScriptTexts.{script_of};
-ghost use Rattle.sb_scripttext.specs.SoFar.{nothing, is_opening, is_in_thread, with_patience, with_start, with_target, with_thread, named_by, with_statement};
+ghost use Rattle.sb_scripttext.specs.Drafts.{nothing, is_opening, is_in_thread, with_patience, with_start, with_target, one_thread_more, with_thread, one_statement_more, in_last_thread, named_by, with_statement};
 ghost use Rattle.sb_text.specs.Steps.{Becomes};
 
 use crate::faults::{KindRefused, ScriptKind, ScriptLimit};
 use crate::placing::Placed;
 use sb_base::{Items, NoMemory};
-use sb_call::ShortName;
 use sb_kernel::Kernel;
 use sb_statements::{
     MAX_START_LINES, MAX_STATEMENTS, MAX_TARGETS, MAX_THREADS, Script, StartLine, Statement,
-    Statements, TargetScript, Targets, Threads, Word,
+    Statements, TargetScript, Targets, Word,
 };
 use sb_text::WordFault;
 use std::alloc::Global;
-use std::marker::Model;
 use std::mem;
 
 const USUAL_PATIENCE: u32 = 10_000;
-
-/// What the heading of a target says.
-#[derive(Drop)]
-pub(crate) struct Heading {
-    /// Its name.
-    pub(crate) name: ShortName,
-    /// The number of its policy, from 0.
-    pub(crate) policy: u32,
-    /// How many channels it has.
-    pub(crate) channels: u32,
-}
 
 /// Where a statement is. A place is the number of bytes from there to the line's end.
 #[derive(Clone, Copy)]
@@ -89,69 +74,44 @@ fn add_named(named: &mut NamedWords, at: StatementAt, statement: &Statement) -> 
     }
 }
 
-// The threads of a target, with the last one.
-fn all_threads(
-    threads: Threads,
-    in_thread: bool,
-    statements: Statements,
-) -> Result<Threads, NoMemory>
-    ensures { IfOk result (λ all. all ≡ all_threads threads in_thread statements) }
-{
-    let mut all = threads;
-    if in_thread {
-        all.push(statements)?;
-    }
-    Ok(all)
-}
-
-// A target of this heading.
-fn target_script(heading: Heading, threads: Threads) -> TargetScript
-    ensures { result ≡ target_script heading threads }
-{
-    TargetScript {
-        name: heading.name,
-        policy: heading.policy,
-        channels: heading.channels,
-        threads,
-    }
-}
-
-// Appends the target of this heading, whose last thread has these statements.
-fn end_target(
-    targets: &mut Targets,
-    heading: Heading,
-    threads: Threads,
-    in_thread: bool,
-    statements: Statements,
-) -> Result<(), NoMemory>
-    ensures { OnOk result (targets.new ≡ targets.old ++ target_script heading (all_threads threads in_thread statements) ∷ []) }
-{
-    let threads = all_threads(threads, in_thread, statements)?;
-    targets.push(target_script(heading, threads))
-}
-
-// The targets, with the last one.
-fn all_targets(
-    before: Targets,
-    last: Option<Heading>,
-    threads: Threads,
-    in_thread: bool,
-    statements: Statements,
-) -> Result<Targets, NoMemory>
-    requires { IsBuilt before last threads in_thread statements }
-    ensures { IfOk result (λ all. all ≡ built before last threads in_thread statements) }
-{
-    let mut all = before;
-    if let Some(last) = last {
-        end_target(&mut all, last, threads, in_thread, statements)?;
-    }
-    Ok(all)
-}
-
 fn is_any_named(targets: &[TargetScript], name: &[u8]) -> bool
     ensures { result ≡ list_any (is_target_named name.now) targets.now }
 {
     targets.iter().any(|target| target.name.bytes() == name)
+}
+
+// One more thread of a target.
+fn add_thread_to(alloc: Global, target: &mut TargetScript) -> Result<(), KindRefused>
+    ensures { Becomes (one_thread_more target.old) result target.new }
+{
+    if target.threads.len() >= MAX_THREADS {
+        return Err(KindRefused::Fault(ScriptKind::TooMany(ScriptLimit::Threads)));
+    }
+    target.threads.push(Statements::empty(alloc))?;
+    Ok(())
+}
+
+// One more statement of a thread.
+fn add_statement_to(statements: &mut Statements, statement: Statement) -> Result<(), KindRefused>
+    ensures { Becomes (one_statement_more statement statements.old) result statements.new }
+{
+    if statements.len() >= MAX_STATEMENTS {
+        return Err(KindRefused::Fault(ScriptKind::TooMany(ScriptLimit::Statements)));
+    }
+    statements.push(statement)?;
+    Ok(())
+}
+
+// One more statement of the last thread of a target. After an error the target is unspecified.
+fn add_to_last_thread(target: &mut TargetScript, statement: Statement) -> Result<(), KindRefused>
+    ensures { Becomes (in_last_thread statement target.old) result target.new }
+{
+    let Some(mut last) = target.threads.pop() else {
+        return Err(KindRefused::Fault(ScriptKind::UnknownWord(WordFault::Misplaced)));
+    };
+    add_statement_to(&mut last, statement)?;
+    target.threads.push(last)?;
+    Ok(())
 }
 
 /// What is so far there of a script. The last target is open for threads, and its last thread for statements.
@@ -159,28 +119,8 @@ fn is_any_named(targets: &[TargetScript], name: &[u8]) -> bool
 pub(crate) struct Draft {
     patience: Option<u32>,
     start: Placed,
-    before: Targets,
-    last: Option<Heading>,
-    threads: Threads,
-    in_thread: bool,
-    statements: Statements,
+    targets: Targets,
     named: NamedWords,
-}
-
-impl Model for Draft {
-    ghost use Rattle.sb_scripttext.specs.Building.{built, IsBuilt};
-    ghost use Rattle.sb_scripttext.specs.SoFar.{SoFar};
-
-    ghost Value = { SoFar };
-
-    ghost view = { λ d. record {
-      patience = d.patience;
-      start = d.start;
-      targets = built d.before d.last d.threads d.in_thread d.statements;
-      named = d.named;
-    } };
-
-    ghost invariant = { λ d. IsBuilt d.before d.last d.threads d.in_thread d.statements };
 }
 
 impl Draft {
@@ -191,11 +131,7 @@ impl Draft {
         Draft {
             patience: None,
             start: Placed::new(alloc),
-            before: Targets::new(Vec::new(alloc)),
-            last: None,
-            threads: Threads::new(Vec::new(alloc)),
-            in_thread: false,
-            statements: Statements::new(Vec::new(alloc)),
+            targets: Targets::empty(alloc),
             named: NamedWords::empty(alloc),
         }
     }
@@ -208,41 +144,31 @@ impl Draft {
     }
 
     /// Whether there is no target.
-    #[tactic(auto, using(crate::proofs::Built::opening_built))]
     pub(crate) fn is_opening(&self) -> bool
         ensures { result ≡ is_opening self.now }
     {
-        self.last.is_none()
+        match self.targets.as_slice() {
+            [] => true,
+            _ => false,
+        }
     }
 
     /// Whether the last target has a thread.
-    #[tactic(auto, using(crate::proofs::Built::thread_built))]
+    #[tactic(auto, using(crate::proofs::LastChanged::last_in_thread, crate::proofs::LastChanged::none_in_thread))]
     pub(crate) fn is_in_thread(&self) -> bool
         ensures { result ≡ is_in_thread self.now }
     {
-        self.in_thread
-    }
-
-    /// Whether a target has this name.
-    #[tactic(auto, using(crate::proofs::Built::any_named))]
-    pub(crate) fn is_named(&self, name: &[u8]) -> bool
-        ensures { result ≡ list_any (is_target_named name.now) self.now.targets }
-    {
-        match &self.last {
-            Some(last) => is_any_named(self.before.as_slice(), name) || last.name.bytes() == name,
+        match self.targets.as_slice().split_last() {
+            Some((last, _)) => last.threads.len() > 0,
             None => false,
         }
     }
 
-    // Whether there is room for one more target.
-    #[tactic(auto, using(crate::proofs::Built::room_more))]
-    fn has_room(&self) -> bool
-        ensures { result ≡ nat_lt (length self.now.targets) most_targets }
+    /// Whether a target has this name.
+    pub(crate) fn is_named(&self, name: &[u8]) -> bool
+        ensures { result ≡ list_any (is_target_named name.now) self.now.targets }
     {
-        match &self.last {
-            Some(_) => self.before.len() < MAX_TARGETS - 1,
-            None => true,
-        }
+        is_any_named(self.targets.as_slice(), name)
     }
 
     /// With this patience.
@@ -268,38 +194,26 @@ impl Draft {
         Ok(())
     }
 
-    /// One more target. After an error the draft is unspecified.
-    pub(crate) fn add_target(&mut self, alloc: Global, heading: Heading) -> Result<(), KindRefused>
-        ensures { Becomes (with_target self.old (target_script heading [])) result self.new }
+    /// One more target.
+    pub(crate) fn add_target(&mut self, target: TargetScript) -> Result<(), KindRefused>
+        ensures { Becomes (with_target self.old target) result self.new }
     {
-        if !self.has_room() {
+        if self.targets.len() >= MAX_TARGETS {
             return Err(KindRefused::Fault(ScriptKind::TooMany(ScriptLimit::Targets)));
         }
-        let threads = mem::replace(&mut self.threads, Threads::new(Vec::new(alloc)));
-        let in_thread = mem::replace(&mut self.in_thread, false);
-        let statements = mem::replace(&mut self.statements, Statements::new(Vec::new(alloc)));
-        if let Some(last) = mem::replace(&mut self.last, Some(heading)) {
-            end_target(&mut self.before, last, threads, in_thread, statements)?;
-        }
+        self.targets.push(target)?;
         Ok(())
     }
 
     /// One more thread of the last target. After an error the draft is unspecified.
-    #[tactic(auto, using(crate::proofs::Built::thread_first, crate::proofs::Built::thread_more))]
     pub(crate) fn add_thread(&mut self, alloc: Global) -> Result<(), KindRefused>
         ensures { Becomes (with_thread self.old) result self.new }
     {
-        if self.last.is_none() {
+        let Some(mut last) = self.targets.pop() else {
             return Err(KindRefused::Fault(ScriptKind::UnknownWord(WordFault::Misplaced)));
-        }
-        if self.in_thread {
-            if self.threads.len() >= MAX_THREADS - 1 {
-                return Err(KindRefused::Fault(ScriptKind::TooMany(ScriptLimit::Threads)));
-            }
-            let ended = mem::replace(&mut self.statements, Statements::new(Vec::new(alloc)));
-            self.threads.push(ended)?;
-        }
-        self.in_thread = true;
+        };
+        add_thread_to(alloc, &mut last)?;
+        self.targets.push(last)?;
         Ok(())
     }
 
@@ -311,38 +225,33 @@ impl Draft {
     ) -> Result<(), KindRefused>
         ensures { Becomes (with_statement self.old at statement) result self.new }
     {
-        if !self.in_thread {
+        let Some(mut last) = self.targets.pop() else {
             return Err(KindRefused::Fault(ScriptKind::UnknownWord(WordFault::Misplaced)));
-        }
-        if self.statements.len() >= MAX_STATEMENTS {
-            return Err(KindRefused::Fault(ScriptKind::TooMany(ScriptLimit::Statements)));
-        }
+        };
         add_named(&mut self.named, at, &statement)?;
-        self.statements.push(statement)?;
+        add_to_last_thread(&mut last, statement)?;
+        self.targets.push(last)?;
         Ok(())
     }
 
     /// The script, the kernel in which its opening lines are placed, and what its statements name.
-    pub(crate) fn into_script(self) -> Result<(Script, Kernel, NamedWords), NoMemory>
-        ensures { IfOk result (λ read. (read.0 ≡ script_of self) × (read.1 ≡ opening self.start) × (read.2 ≡ self.named)) }
+    pub(crate) fn into_script(self) -> (Script, Kernel, NamedWords)
+        ensures script { result.0 ≡ script_of self }
+        ensures kernel { result.1 ≡ opening self.start }
+        ensures named { result.2 ≡ self.named }
     {
         let Draft {
             patience,
             start,
-            before,
-            last,
-            threads,
-            in_thread,
-            statements,
+            targets,
             named,
         } = self;
-        let targets = all_targets(before, last, threads, in_thread, statements)?;
         let (start, kernel) = start.into_parts();
         let script = Script {
             patience: patience.unwrap_or(USUAL_PATIENCE),
             start,
             targets,
         };
-        Ok((script, kernel, named))
+        (script, kernel, named)
     }
 }

@@ -40,10 +40,16 @@ pub enum ScriptKind {
     UnknownCall,
     /// An argument of a call is missing, one too many or of the wrong kind, or another statement has too few or too many words.
     WrongArgs(WordFault),
-    /// No number, or one out of its range: a patience and the loads of a `wait` are 1 to 1,000,000, the channels of a target
-    /// 1 to 8, the kind and the initial state of an event 0 or 1, attributes and the numbers of a call below 2^32, and
-    /// handles and all other numbers below 2^64.
+    /// No number below 2^64.
     BadNumber,
+    /// A number out of its range: a patience and the loads of a `wait` are 1 to 1,000,000, the channels of a target 1 to 8,
+    /// the kind and the initial state of an event 0 or 1, attributes and the numbers of a call below 2^32.
+    OutOfRange {
+        /// The lowest number of the range.
+        low: u64,
+        /// The highest.
+        high: u64,
+    },
     /// The string is no name.
     BadName,
     /// There is no policy of this name.
@@ -86,7 +92,7 @@ impl ScriptKind {
             ScriptKind::UnknownWord(_) => 2,
             ScriptKind::UnknownCall => 3,
             ScriptKind::WrongArgs(_) => 4,
-            ScriptKind::BadNumber => 5,
+            ScriptKind::BadNumber | ScriptKind::OutOfRange { .. } => 5,
             ScriptKind::BadName => 6,
             ScriptKind::NoSuchPolicy => 7,
             ScriptKind::NoSuchTarget { .. } => 8,

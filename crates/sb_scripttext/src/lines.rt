@@ -1,29 +1,26 @@
 // Reading the lines below the first.
-ghost use Rattle.std.specs.Prelude.{◌≡◌, []};
+ghost use Rattle.std.specs.Prelude.{◌≡◌};
 ghost use Rattle.std.specs.List.{list_any, position};
 ghost use Rattle.sb_rule.specs.WellMade.{is_named};
 ghost use Rattle.sb_scripttext.specs.Arguments.{call};
-ghost use Rattle.sb_scripttext.specs.Building.{target_script};
 ghost use Rattle.sb_scripttext.specs.Lines.{patience, new_name, new_name_at, policy_number, policy_at, heading, set_patience, add_target, add_thread, is_opening_word, is_statement_word, is_line_word, first_word_fault, refused_start, start_line, statement_line, plain_line, line_of};
-ghost use Rattle.sb_scripttext.specs.SoFar.{statement_at};
+ghost use Rattle.sb_scripttext.specs.Drafts.{statement_at};
 ghost use Rattle.sb_scripttext.specs.Openings.{dir, file, key, event};
 ghost use Rattle.sb_scripttext.specs.Statements.{store, exchange, load, wait};
 ghost use Rattle.sb_base.specs.Refusals.{Gives};
-ghost use Rattle.sb_base.specs.Refusals.{GivesAs};
 ghost use Rattle.sb_text.specs.Steps.{Reads, Becomes};
 ghost use Rattle.sb_text.specs.Tokens.{tokens_of};
 
 use crate::arguments::{MAX_32, call};
-use crate::drafts::{Draft, Heading, StatementAt};
+use crate::drafts::{Draft, StatementAt};
 use crate::faults::ScriptKind::{BadNumber, BadStart, NoSuchPolicy, SameName, UnknownWord};
 use crate::faults::{KindRefused, LineRefused, ScriptKind};
 use crate::openings::{dir, event, file, key};
 use crate::statements::{exchange, load, store, wait};
 use crate::steps::{BROKEN, at_line_end, number_within};
-use sb_base::is_word;
 use sb_call::ShortName;
 use sb_rule::Policy;
-use sb_statements::{MAX_CHANNELS, MAX_PATIENCE, StartLine, Statement};
+use sb_statements::{MAX_CHANNELS, MAX_PATIENCE, StartLine, Statement, TargetScript, Threads};
 use sb_text::{Line, Tokens, WordFault, end_at, or_fails, word_at};
 use std::alloc::Global;
 
@@ -111,17 +108,23 @@ fn policy_at(policies: &[Policy], tokens: &mut Tokens) -> Result<u32, LineRefuse
 
 // `target NAME POLICY CHANNELS`, after its first word.
 #[tactic(auto, unfolding(crate::specs::Lines::heading))]
-fn heading(policies: &[Policy], draft: &Draft, tokens: &mut Tokens) -> Result<Heading, LineRefused>
-    ensures { GivesAs (λ heading. target_script heading []) (heading policies.now draft.now.targets tokens.old) result }
+fn heading(
+    alloc: Global,
+    policies: &[Policy],
+    draft: &Draft,
+    tokens: &mut Tokens,
+) -> Result<TargetScript, LineRefused>
+    ensures { Gives (heading policies.now draft.now.targets tokens.old) result }
 {
     let name = new_name_at(draft, tokens)?;
     let policy = policy_at(policies, tokens)?;
     let channels = number_within(1, u64::from(MAX_CHANNELS), BadNumber, MISSING, tokens)?;
     end_at(EXTRA, BROKEN, tokens)?;
-    Ok(Heading {
+    Ok(TargetScript {
         name,
         policy,
         channels: channels as u32,
+        threads: Threads::empty(alloc),
     })
 }
 
@@ -152,8 +155,8 @@ fn add_target(
 ) -> Result<(), LineRefused>
     ensures { Becomes (add_target policies.now draft.old line.now tokens.old) result draft.new }
 {
-    let heading = heading(policies, draft, tokens)?;
-    match draft.add_target(alloc, heading) {
+    let target = heading(alloc, policies, draft, tokens)?;
+    match draft.add_target(target) {
         Ok(()) => Ok(()),
         Err(refused) => Err(line.refuse(refused)),
     }
@@ -183,21 +186,21 @@ fn add_thread(
 fn is_opening_word(word: &[u8]) -> bool
     ensures { result ≡ is_opening_word word.now }
 {
-    is_word(word, b"dir")
-        || is_word(word, b"file")
-        || is_word(word, b"key")
-        || is_word(word, b"event")
+    word == b"dir".as_slice()
+        || word == b"file".as_slice()
+        || word == b"key".as_slice()
+        || word == b"event".as_slice()
 }
 
 // Whether the word begins a statement.
 fn is_statement_word(word: &[u8]) -> bool
     ensures { result ≡ is_statement_word word.now }
 {
-    is_word(word, b"call")
-        || is_word(word, b"store")
-        || is_word(word, b"exchange")
-        || is_word(word, b"load")
-        || is_word(word, b"wait")
+    word == b"call".as_slice()
+        || word == b"store".as_slice()
+        || word == b"exchange".as_slice()
+        || word == b"load".as_slice()
+        || word == b"wait".as_slice()
 }
 
 // Whether the word begins a line that is allowed elsewhere in a script.
@@ -238,13 +241,13 @@ fn start_line(
 ) -> Result<StartLine, LineRefused>
     ensures { Gives (start_line word.now line.now tokens.old) result }
 {
-    if is_word(word, b"dir") {
+    if word == b"dir".as_slice() {
         dir(alloc, tokens)
-    } else if is_word(word, b"file") {
+    } else if word == b"file".as_slice() {
         file(alloc, tokens)
-    } else if is_word(word, b"key") {
+    } else if word == b"key".as_slice() {
         key(alloc, tokens)
-    } else if is_word(word, b"event") {
+    } else if word == b"event".as_slice() {
         event(alloc, tokens)
     } else {
         Err(line.fail(first_word_fault(word)))
@@ -261,15 +264,15 @@ fn statement_line(
 ) -> Result<Statement, LineRefused>
     ensures { Gives (statement_line word.now line.now tokens.old) result }
 {
-    if is_word(word, b"call") {
+    if word == b"call".as_slice() {
         call(alloc, line, tokens)
-    } else if is_word(word, b"store") {
+    } else if word == b"store".as_slice() {
         store(tokens)
-    } else if is_word(word, b"exchange") {
+    } else if word == b"exchange".as_slice() {
         exchange(tokens)
-    } else if is_word(word, b"load") {
+    } else if word == b"load".as_slice() {
         load(tokens)
-    } else if is_word(word, b"wait") {
+    } else if word == b"wait".as_slice() {
         wait(tokens)
     } else {
         Err(line.fail(first_word_fault(word)))
@@ -333,13 +336,13 @@ pub(crate) fn line_of(
     let first = line.tokens();
     let mut tokens = first.copy();
     let word = word_at(QUOTED, BROKEN, MISSING, &mut tokens)?;
-    if is_word(word, b"patience") {
+    if word == b"patience".as_slice() {
         return set_patience(draft, &first, &mut tokens);
     }
-    if is_word(word, b"target") {
+    if word == b"target".as_slice() {
         return add_target(alloc, policies, draft, &first, &mut tokens);
     }
-    if is_word(word, b"thread") {
+    if word == b"thread".as_slice() {
         return add_thread(alloc, draft, &first, &tokens);
     }
     plain_line(alloc, word, draft, line.number, &first, &mut tokens)

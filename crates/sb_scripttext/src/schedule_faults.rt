@@ -12,8 +12,15 @@ pub enum ScheduleKind {
     UnknownWord(WordFault),
     /// The word names no actor, or one that the script does not have.
     UnknownActor,
-    /// No number, or one out of its range: steps of a line are 1 to 100,000, rounds 0 to 20,000,000.
+    /// No number below 2^64.
     BadNumber,
+    /// A number out of its range: steps of a line are 1 to 100,000, rounds 0 to 20,000,000.
+    OutOfRange {
+        /// The lowest number of the range.
+        low: u32,
+        /// The highest.
+        high: u32,
+    },
     /// More than 100,000 steps.
     TooMany,
     /// There is no line `rounds`.
@@ -28,7 +35,7 @@ impl ScheduleKind {
         match self {
             ScheduleKind::UnknownWord(_) => 1,
             ScheduleKind::UnknownActor => 2,
-            ScheduleKind::BadNumber => 3,
+            ScheduleKind::BadNumber | ScheduleKind::OutOfRange { .. } => 3,
             ScheduleKind::TooMany => 4,
             ScheduleKind::NoRounds => 5,
         }

@@ -10,9 +10,8 @@ ghost use Rattle.sb_text.specs.declared.refusals.WordFault.TheVariants.{Broken, 
 
 use crate::actors::actor_of;
 use crate::schedule_drafts::Draft;
-use crate::schedule_faults::ScheduleKind::{BadNumber, UnknownActor, UnknownWord};
+use crate::schedule_faults::ScheduleKind::{BadNumber, OutOfRange, UnknownActor, UnknownWord};
 use crate::schedule_faults::{KindRefused, LineRefused};
-use sb_base::is_word;
 use sb_statements::{Actor, Script};
 use sb_text::{WordFault, Words, number_of};
 
@@ -29,7 +28,8 @@ fn within(lo: u32, hi: u32, word: &[u8]) -> Result<u32, KindRefused>
 {
     match number_of(word) {
         Some(number) if u64::from(lo) <= number && number <= u64::from(hi) => Ok(number as u32),
-        _ => Err(KindRefused::Fault(BadNumber)),
+        Some(_) => Err(KindRefused::Fault(OutOfRange { low: lo, high: hi })),
+        None => Err(KindRefused::Fault(BadNumber)),
     }
 }
 
@@ -119,10 +119,10 @@ fn line_by(
 ) -> Result<(), LineRefused>
     ensures { Becomes (line_by script.now.targets draft.old first.now line.now words.now) result draft.new }
 {
-    if is_word(first, b"step") {
+    if first == b"step".as_slice() {
         return add_steps(script, draft, words);
     }
-    if is_word(first, b"rounds") {
+    if first == b"rounds".as_slice() {
         let count = last_number(0, MAX_ROUNDS, words)?;
         draft.set_rounds(count);
         return Ok(());

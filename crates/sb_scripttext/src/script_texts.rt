@@ -1,7 +1,7 @@
 // Reading script texts.
 ghost use Rattle.std.specs.Prelude.{◌≡◌, ◌+◌, ◌<◌, ◌≤◌, ◌^◌, drop, length, IfOk};
 ghost use Rattle.sb_kernel.specs.Openings.{opening};
-ghost use Rattle.sb_scripttext.specs.SoFar.{nothing};
+ghost use Rattle.sb_scripttext.specs.Drafts.{nothing};
 ghost use Rattle.sb_scripttext.specs.ScriptTexts.{grammar, absence, first_number, from_place, with_number, absence_on, first_absence, finished, reading};
 ghost use Rattle.sb_text.specs.MissingTexts.{line_or_empty};
 ghost use Rattle.sb_scripttext.specs.declared.faults.ScriptKind.TheVariants.{UnknownWord};
@@ -163,7 +163,7 @@ fn finished(text: &[u8], draft: Draft) -> Result<(Script, Kernel), ScriptRefused
     ensures exactly { GivesAs (λ read. read.0) (finished text.now draft) result }
     ensures kernel { IfOk result (λ read. read.1 ≡ opening read.0.start) }
 {
-    let (script, kernel, named) = draft.into_script()?;
+    let (script, kernel, named) = draft.into_script();
     match first_absence(script.targets.as_slice(), named.as_slice()) {
         Some((line, fault)) => Err(ScriptRefused::Fault(absence_at(text, line, fault))),
         None => Ok((script, kernel)),

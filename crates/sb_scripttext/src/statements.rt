@@ -8,7 +8,6 @@ use crate::arguments::MAX_32;
 use crate::faults::ScriptKind::{BadNumber, NoSuchWord, WrongArgs};
 use crate::faults::{KindRefused, LineRefused, ScriptKind};
 use crate::steps::{BROKEN, at_line_end, number_at, within};
-use sb_base::is_word;
 use sb_statements::{MAX_PATIENCE, Statement, Word};
 use sb_text::{Tokens, WordFault, end_at, number_of, word_due};
 
@@ -60,7 +59,7 @@ fn block_place(word: u64) -> Result<u32, KindRefused>
 fn place_of(word: &[u8]) -> Result<u32, KindRefused>
     ensures { Gives (place_of word.now) result }
 {
-    if is_word(word, b"state") {
+    if word == b"state".as_slice() {
         return Ok(0);
     }
     match number_of(word) {

@@ -62,7 +62,7 @@ pub(crate) fn within(lo: u64, hi: u64, number: u64) -> Result<u64, KindRefused>
     if lo <= number && number <= hi {
         Ok(number)
     } else {
-        Err(KindRefused::Fault(ScriptKind::BadNumber))
+        Err(KindRefused::Fault(ScriptKind::OutOfRange { low: lo, high: hi }))
     }
 }
 

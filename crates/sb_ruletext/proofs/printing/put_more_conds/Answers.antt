@@ -23,9 +23,9 @@ pub loop-cond-preserved : goal.loop-cond-preserved
 loop-cond-preserved c =
     let taken = next_taken _ _ _ c.loop-cond-test.true c.cond-item.is in record {
       text = part_appended (λ conds. spaced (flat_map (joined_tokens (codes "and") c.args.tag) conds)) c.args.conds.now c.loop-cond.cond-index c.cond-item.result _ _ _ _ taken
-          (one_more c.args.tag _ c.cond-item.result) c.loop-cond.invariant.text c.in_ok-put_cond.ensures.text;
+          (one_more c.args.tag _ c.cond-item.result) c.loop-cond.invariant.text c.in_ok-put_joined.ensures.text;
       values = all_next (λ cond. is_test_of_values cond.test) c.args.conds.now c.loop-cond.cond-index c.cond-item.result taken
-          c.loop-cond.invariant.values c.in_ok-put_cond.ensures.values;
+          c.loop-cond.invariant.values c.in_ok-put_joined.ensures.values;
     }
 
 pub returns-clause-text : goal.returns-clause-text

@@ -1,38 +1,27 @@
-use Rattle.std.proofs.Common.{rules, ◌≡◌, ◌≤◌, subst, length, true, false, Err}
-use Rattle.std.specs.Option.{is_none}
-use Rattle.sb_scripttext.specs.Building.{built}
-use Rattle.sb_scripttext.specs.SoFar.{SoFar, with_thread}
-use Rattle.sb_scripttext.specs.declared.faults.ScriptKind.TheVariants.{UnknownWord, TooMany}
-use Rattle.sb_scripttext.specs.declared.faults.ScriptLimit.TheVariants.{Threads}
-use Rattle.sb_text.specs.declared.refusals.WordFault.TheVariants.{Misplaced}
-use Rattle.sb_scripttext.proofs.Built.{thread_nowhere, thread_too_many, thread_refused}
+use Rattle.std.proofs.Common.{rules, ◌≡◌, [], List, Result, Ok}
+use Rattle.std.proofs.lemmas.Result.{err_from_is_err_and}
+use Rattle.sb_statements.specs.declared.scripts.TargetScript.{TargetScript}
+use Rattle.sb_scripttext.proofs.LastChanged.{last_missing, last_refused, last_changed}
+use Rattle.sb_scripttext.specs.Drafts.{one_thread_more}
+use Rattle.sb_scripttext.specs.declared.drafts.Draft.{Draft}
+use Rattle.sb_scripttext.specs.declared.faults.ScriptKind.{ScriptKind}
 use Rattle.sb_scripttext.proofs.drafts.Draft.add_thread.Goals as goal
 
-pub returns-then-is_none : goal.returns-then-is_none
-returns-then-is_none c =
-    let inside = c.self.inside in
-    let sofar : SoFar = record {
-      patience = inside.patience;
-      start = inside.start;
-      targets = built inside.before inside.last inside.threads inside.in_thread inside.statements;
-      named = inside.named;
-    } in
-    let none : is_none inside.last ≡ true = search rules in
-    subst (λ (old : SoFar). with_thread old ≡ Err (UnknownWord Misplaced)) c.self.view_is
-    (thread_refused sofar (UnknownWord Misplaced) (thread_nowhere inside.before inside.last inside.threads inside.in_thread inside.statements none))
+abbrev with_targets : Draft → List TargetScript → Result Draft ScriptKind
+with_targets draft targets = Ok (record draft { targets = targets })
 
-pub returns-then-len : goal.returns-then-len
-returns-then-len c =
-    let inside = c.self.inside in
-    let sofar : SoFar = record {
-      patience = inside.patience;
-      start = inside.start;
-      targets = built inside.before inside.last inside.threads inside.in_thread inside.statements;
-      named = inside.named;
-    } in
-    let some : is_none inside.last ≡ false = search rules in
-    let in_thread : inside.in_thread ≡ true = search rules in
-    let many : 3 ≤ length inside.threads = search rules in
-    subst (λ (old : SoFar). with_thread old ≡ Err (TooMany Threads)) c.self.view_is
-    (thread_refused sofar (TooMany Threads)
-    (thread_too_many inside.before inside.last inside.threads inside.in_thread inside.statements some in_thread many))
+pub returns-in_default : goal.returns-in_default
+returns-in_default c =
+    let none : c.args.self.now.targets ≡ [] = search rules in
+    last_missing one_thread_more (with_targets c.args.self.now) c.args.self.now.targets none
+
+pub returns-in_err-add_thread_to : goal.returns-in_err-add_thread_to
+returns-in_err-add_thread_to c =
+    let p = err_from_is_err_and c.from_residual.result c.from_residual.ensures.1 in
+    rw (p.1, p.2) (last_refused one_thread_more (with_targets c.args.self.now) c.args.self.now.targets c.pop.new.self c.in-Some.last
+    c.add_thread_to.new.target _ c.in_err-add_thread_to.field-0.0 c.in-Some.ensures c.in_err-add_thread_to.ensures)
+
+pub returns : goal.returns
+returns c =
+    last_changed one_thread_more (with_targets c.args.self.now) c.args.self.now.targets c.pop.new.self c.push.new.self c.in-Some.last c.add_thread_to.new.target
+    c.in-Some.ensures c.in_ok-add_thread_to.ensures c.in_ok-push.ensures.ok

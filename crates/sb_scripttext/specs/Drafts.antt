@@ -1,4 +1,4 @@
--- What is so far there of a script, and what a line adds to it.
+-- What is so far there of a script, as the reader keeps it, and what a line adds to it.
 use Rattle.std.specs.Prelude.{ℕ, Bool, true, false, not, nat_lt, List, [], ◌∷◌, ◌++◌, length, Option, None, Some, Result, Ok, Err, if◌then◌else◌}
 use Rattle.sb_statements.specs.Limits.{most_start_lines, most_targets, most_threads, most_statements}
 use Rattle.sb_statements.specs.declared.scripts.StartLine.{StartLine}
@@ -9,6 +9,7 @@ use Rattle.sb_scripttext.specs.Openings.{can_place}
 use Rattle.sb_scripttext.specs.StartFaults.{start_fault}
 use Rattle.sb_text.specs.Steps.{◌>>=◌, later}
 use Rattle.sb_text.specs.Tokens.{Lexemes, place_due}
+use Rattle.sb_scripttext.specs.declared.drafts.Draft.{Draft}
 use Rattle.sb_scripttext.specs.declared.drafts.Named.{Named}
 use Rattle.sb_scripttext.specs.declared.drafts.StatementAt.{StatementAt}
 use Rattle.sb_scripttext.specs.declared.faults.ScriptKind.{ScriptKind}
@@ -16,16 +17,8 @@ use Rattle.sb_scripttext.specs.declared.faults.ScriptKind.TheVariants.{UnknownWo
 use Rattle.sb_scripttext.specs.declared.faults.ScriptLimit.TheVariants.{Openings, Targets, Threads, Statements}
 use Rattle.sb_text.specs.declared.refusals.WordFault.TheVariants.{Misplaced}
 
--- what is so far there: the patience, if a line told it, the opening lines, the targets, and what statements name. The last target is
--- open for threads, and its last thread for statements
-pub record SoFar : Type 0 where
-  pub patience : Option ℕ
-  pub start : List StartLine
-  pub targets : List TargetScript
-  pub named : List Named
-
 -- nothing is there
-abbrev pub nothing : SoFar
+abbrev pub nothing : Draft
 nothing = record { patience = None; start = []; targets = []; named = [] }
 
 -- a list is empty
@@ -46,26 +39,26 @@ last_threads (target ∷ []) = target.threads
 last_threads (target ∷ next ∷ targets) = last_threads (next ∷ targets)
 
 -- no target was read
-abbrev pub is_opening : SoFar → Bool
+abbrev pub is_opening : Draft → Bool
 is_opening sofar = is_empty sofar.targets
 
 -- the last target has a thread
-abbrev pub is_in_thread : SoFar → Bool
+abbrev pub is_in_thread : Draft → Bool
 is_in_thread sofar = not (is_empty (last_threads sofar.targets))
 
 -- with this patience
-abbrev pub with_patience : SoFar → ℕ → SoFar
+abbrev pub with_patience : Draft → ℕ → Draft
 with_patience sofar patience = record sofar { patience = Some patience }
 
 -- one more opening line, if it can be placed
-abbrev pub with_start : SoFar → StartLine → Result SoFar ScriptKind
+abbrev pub with_start : Draft → StartLine → Result Draft ScriptKind
 with_start sofar line =
     if can_place sofar.start line
     then (if nat_lt (length sofar.start) most_start_lines then Ok (record sofar { start = sofar.start ++ line ∷ [] }) else Err (TooMany Openings))
     else Err (BadStart (start_fault sofar.start line))
 
 -- one more target
-abbrev pub with_target : SoFar → TargetScript → Result SoFar ScriptKind
+abbrev pub with_target : Draft → TargetScript → Result Draft ScriptKind
 with_target sofar target =
     if nat_lt (length sofar.targets) most_targets then Ok (record sofar { targets = sofar.targets ++ target ∷ [] }) else Err (TooMany Targets)
 
@@ -75,7 +68,7 @@ one_thread_more target =
     if nat_lt (length target.threads) most_threads then Ok (record target { threads = target.threads ++ [] ∷ [] }) else Err (TooMany Threads)
 
 -- one more thread of the last target
-abbrev pub with_thread : SoFar → Result SoFar ScriptKind
+abbrev pub with_thread : Draft → Result Draft ScriptKind
 with_thread sofar = change_last one_thread_more sofar.targets >>= λ targets. Ok (record sofar { targets = targets })
 
 -- a thread with one more statement
@@ -101,6 +94,6 @@ named_by at (Load target word) = record { at = at; target = target; channel = wo
 named_by at (Wait target word value most) = record { at = at; target = target; channel = word.channel } ∷ []
 
 -- one more statement of the last thread, with what it names there
-abbrev pub with_statement : SoFar → StatementAt → Statement → Result SoFar ScriptKind
+abbrev pub with_statement : Draft → StatementAt → Statement → Result Draft ScriptKind
 with_statement sofar at statement =
     change_last (in_last_thread statement) sofar.targets >>= λ targets. Ok (record sofar { targets = targets; named = sofar.named ++ named_by at statement })
