@@ -5,21 +5,21 @@ ghost use Rattle.sb_call.specs.CallWords.{call_word, every_tag, tag_of_word};
 use crate::tags::CallTag;
 
 /// The word by which texts name a call, as `file.create`.
-pub fn call_word(tag: CallTag) -> &'static [u8]
+pub fn call_word(tag: CallTag) -> &'static str
     ensures { result.now ≡ call_word tag }
 {
     match tag {
-        CallTag::Ping => b"ping",
-        CallTag::FileCreate => b"file.create",
-        CallTag::FileOpen => b"file.open",
-        CallTag::FileQuery => b"file.query",
-        CallTag::FileRename => b"file.rename",
-        CallTag::PipeCreate => b"pipe.create",
-        CallTag::KeyCreate => b"key.create",
-        CallTag::KeyOpen => b"key.open",
-        CallTag::EventCreate => b"event.create",
-        CallTag::EventOpen => b"event.open",
-        CallTag::HandleClose => b"handle.close",
+        CallTag::Ping => "ping",
+        CallTag::FileCreate => "file.create",
+        CallTag::FileOpen => "file.open",
+        CallTag::FileQuery => "file.query",
+        CallTag::FileRename => "file.rename",
+        CallTag::PipeCreate => "pipe.create",
+        CallTag::KeyCreate => "key.create",
+        CallTag::KeyOpen => "key.open",
+        CallTag::EventCreate => "event.create",
+        CallTag::EventOpen => "event.open",
+        CallTag::HandleClose => "handle.close",
     }
 }
 
@@ -47,7 +47,7 @@ pub fn tag_of_word(word: &[u8]) -> Option<CallTag>
     ensures { result ≡ tag_of_word word.now }
 {
     for tag in every_tag() {
-        if word == call_word(*tag) {
+        if word == call_word(*tag).as_bytes() {
             return Some(*tag);
         }
     }

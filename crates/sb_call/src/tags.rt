@@ -50,10 +50,7 @@ impl ParamKind {
     pub fn is_number(self) -> bool
         ensures { result ≡ is_number_kind self }
     {
-        match self {
-            ParamKind::Num | ParamKind::Handle => true,
-            ParamKind::Text | ParamKind::Name => false,
-        }
+        matches!(self, ParamKind::Num | ParamKind::Handle)
     }
 }
 

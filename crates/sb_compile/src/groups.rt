@@ -6,7 +6,7 @@ ghost use Rattle.sb_opcode.specs.Opcodes as op;
 ghost use Rattle.sb_opcode.specs.declared.opcodes.Seek.TheVariants.{Skip};
 ghost use Rattle.sb_opcode.specs.Records.{kind_of};
 ghost use Rattle.sb_compile.specs.Compiling.{opcode, closed, end_bits, with_options};
-ghost use Rattle.sb_compile.specs.Steps.{last_if};
+ghost use Rattle.sb_compile.specs.Steps.{is_none, last_if};
 
 use bitflags::Flags;
 use sb_base::NoMemory;
@@ -28,6 +28,13 @@ pub(crate) fn whole_string() -> Options
     ensures { result.0 ≡ bit_or FOLD EXACT }
 {
     Options::FOLD.union(Options::EXACT)
+}
+
+// Whether there is no item.
+pub(crate) fn is_none<T>(items: &[T]) -> bool
+    ensures { result ≡ is_none items.now }
+{
+    matches!(items, [])
 }
 
 // The options that the last opcode of a group has besides.
@@ -70,16 +77,12 @@ impl Group {
         requires { length code.old + 1 < 2 ^ 32 }
         ensures { OnOk result (code.new ≡ code.old ++ last_if is_last self.negated (opcode self.param options.0 (kind_of kind.entry)) ∷ []) }
     {
-        if is_last {
-            push(
-                code,
-                self.param,
-                options.union(end_options(self.negated)),
-                kind,
-            )
+        let options = if is_last {
+            options.union(end_options(self.negated))
         } else {
-            push(code, self.param, options, kind)
-        }
+            options
+        };
+        push(code, self.param, options, kind)
     }
 
     /// Appends a text opcode of the group with these cells. It may be the group's last.

@@ -87,7 +87,7 @@ fn put_act(out: &mut Vec<u8>, action: Action, line: u32) -> Result<(), NoMemory>
     ensures { OnOk result (out.new.items ≡ out.old.items ++ (codes "action " ++ action_word action ++ codes " line " ++ decimal line)) }
 {
     out.extend_from_slice(b"action ")?;
-    out.extend_from_slice(action.word())?;
+    out.extend_from_slice(action.word().as_bytes())?;
     out.extend_from_slice(b" line ")?;
     put_decimal(out, u64::from(line))
 }
@@ -161,17 +161,6 @@ fn put_later(out: &mut Vec<u8>, records: &mut Records<'_>) -> Result<(), NoMemor
     Ok(())
 }
 
-fn put_heading(out: &mut Vec<u8>, name: &[u8], tag: CallTag) -> Result<(), NoMemory>
-    ensures { OnOk result (out.new.items ≡ out.old.items ++ (codes "code " ++ name.now ++ codes " " ++ call_word tag ++ 10 ∷ [])) }
-{
-    out.extend_from_slice(b"code ")?;
-    out.extend_from_slice(name)?;
-    out.push(b' ')?;
-    out.extend_from_slice(call_word(tag))?;
-    out.push(b'\n')?;
-    Ok(())
-}
-
 // The heading of a code and its lines, and nothing if there are no opcodes.
 pub(crate) fn put_code(
     out: &mut Vec<u8>,
@@ -185,7 +174,11 @@ pub(crate) fn put_code(
     let Some(first) = records.next_record() else {
         return Ok(());
     };
-    put_heading(out, name, tag)?;
+    out.extend_from_slice(b"code ")?;
+    out.extend_from_slice(name)?;
+    out.push(b' ')?;
+    out.extend_from_slice(call_word(tag).as_bytes())?;
+    out.push(b'\n')?;
     put_opcode(out, 0, &first)?;
     put_later(out, &mut records)
 }

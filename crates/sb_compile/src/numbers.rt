@@ -3,21 +3,11 @@ ghost use Rattle.std.specs.Prelude.{◌≡◌, ◌+◌, ◌<◌, ◌≤◌, ◌^
 ghost use Rattle.sb_opcode.specs.Opcodes as op;
 ghost use Rattle.sb_opcode.specs.Options.{OR};
 ghost use Rattle.sb_compile.specs.Compiling.{opcode, closed, numbers_code};
-ghost use Rattle.sb_compile.specs.Steps.{is_none};
 
-use crate::groups::Group;
+use crate::groups::{Group, is_none};
 use bitflags::Flags;
 use sb_base::NoMemory;
 use sb_opcode::{Code, OpKind, Options};
-
-fn is_none(numbers: &[u64]) -> bool
-    ensures { result ≡ is_none numbers.now }
-{
-    match numbers.split_first() {
-        Some(_) => false,
-        None => true,
-    }
-}
 
 // Appends an opcode for each number, of which one is enough.
 #[tactic(auto, using(crate::proofs::Steps::choices_step))]

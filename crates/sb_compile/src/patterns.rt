@@ -3,12 +3,10 @@ ghost use Rattle.std.specs.Prelude.{◌≡◌, ◌+◌, ◌<◌, ◌≤◌, ◌^
 ghost use Rattle.std.specs.List.{slice_split, prefix_len};
 ghost use Rattle.sb_rule.specs.Chunks.{is_any};
 ghost use Rattle.sb_rule.specs.PatternLimits.{most_units};
-ghost use Rattle.sb_opcode.specs.Opcodes as op;
-ghost use Rattle.sb_opcode.specs.Options.{FOLD};
-ghost use Rattle.sb_compile.specs.Compiling.{opcode, closed, is_one, here, later_code, runs_code};
-ghost use Rattle.sb_compile.specs.Steps.{last_if, is_none};
+ghost use Rattle.sb_compile.specs.Compiling.{closed, is_one, here, later_code, runs_code};
+ghost use Rattle.sb_compile.specs.Steps.{last_if};
 
-use crate::groups::{Group, whole_string};
+use crate::groups::{Group, is_none, whole_string};
 use bitflags::Flags;
 use sb_base::NoMemory;
 use sb_opcode::{Code, OpKind, Options, Seek};
@@ -17,28 +15,13 @@ use sb_rule::Cell;
 fn is_star(cell: &Cell) -> bool
     ensures { result ≡ is_any cell.now }
 {
-    match cell {
-        Cell::Any => true,
-        Cell::One | Cell::Lit(_) => false,
-    }
+    matches!(cell, Cell::Any)
 }
 
 fn is_question(cell: &Cell) -> bool
     ensures { result ≡ is_one cell.now }
 {
-    match cell {
-        Cell::One => true,
-        Cell::Any | Cell::Lit(_) => false,
-    }
-}
-
-fn is_none(cells: &[Cell]) -> bool
-    ensures { result ≡ is_none cells.now }
-{
-    match cells.split_first() {
-        Some(_) => false,
-        None => true,
-    }
+    matches!(cell, Cell::One)
 }
 
 fn star_at(cells: &[Cell]) -> Option<usize>
@@ -58,20 +41,6 @@ fn cut_at_star(cells: &[Cell]) -> Option<(&[Cell], &[Cell])>
     let (run, rest) = cells.split_at(at);
     let (_, later) = rest.split_at(1);
     Some((run, later))
-}
-
-// Appends the opcode of cells that are sought.
-fn push_run(
-    code: &mut Code,
-    group: Group,
-    cells: &[Cell],
-    seek: Seek,
-    is_last: bool,
-) -> Result<(), NoMemory>
-    requires { length code.old + 1 < 2 ^ 32 }
-    ensures { OnOk result (code.new ≡ code.old ++ last_if is_last group.negated (opcode group.param FOLD (op.Text cells.now seek)) ∷ []) }
-{
-    group.push_text(code, Options::FOLD, seek, cells, is_last)
 }
 
 // How many `?` the cells begin with.
@@ -112,13 +81,13 @@ fn push_later(code: &mut Code, group: Group, cells: &[Cell]) -> Result<(), NoMem
 {
     let mut rest = cells;
     while let Some((run, later)) = cut_at_star(rest) {
-        push_run(code, group, run, Seek::Forward, is_none(later))?;
+        group.push_text(code, Options::FOLD, Seek::Forward, run, is_none(later))?;
         rest = later;
     }
     if is_none(rest) {
         return Ok(());
     }
-    push_run(code, group, rest, Seek::ToEnd, true)
+    group.push_text(code, Options::FOLD, Seek::ToEnd, rest, true)
 }
 
 // Appends the opcodes of a star and of what follows it.

@@ -6,7 +6,7 @@ ghost use Rattle.sb_rule.specs.WellMade.{is_sensible, is_well_made_rule};
 ghost use Rattle.sb_opcode.specs.Opcodes as op;
 ghost use Rattle.sb_opcode.specs.declared.opcodes.Seek.TheVariants.{Skip};
 ghost use Rattle.sb_opcode.specs.Options.{FOLD, EXACT};
-ghost use Rattle.sb_compile.specs.Compiling.{opcode, closed, test_code, cond_code, rule_code, code_of};
+ghost use Rattle.sb_compile.specs.Compiling.{cond_code, rule_code, code_of};
 
 use crate::groups::{Group, push};
 use crate::numbers::push_numbers;
@@ -17,25 +17,6 @@ use sb_call::CallTag;
 use sb_opcode::{Code, OpKind, Options};
 use sb_rule::{Cond, Rule, Test, WellMadePolicy};
 use std::alloc::Global;
-
-// Appends the opcodes of a test.
-fn push_test(code: &mut Code, group: Group, test: &Test) -> Result<(), NoMemory>
-    requires room { length code.old + 258 < 2 ^ 32 }
-    requires sensible { is_sensible test.now ≡ true }
-    ensures ok { OnOk result (code.new ≡ code.old ++ closed group.negated (test_code group.param test.now)) }
-    ensures few { OnOk result (length code.new ≤ length code.old + 257) }
-{
-    match test {
-        Test::OneOf(numbers) => push_numbers(code, group, numbers.as_slice()),
-        Test::Range { lo, hi } => {
-            let (lo, hi) = (*lo, *hi);
-            group.push(code, Options::empty(), OpKind::Range { lo, hi }, true)
-        }
-        Test::Mask(mask) => group.push(code, Options::empty(), OpKind::Mask(*mask), true),
-        Test::Equal(text) => group.push_string(code, text.as_units()),
-        Test::Like(pattern) => push_pattern(code, group, pattern.cells()),
-    }
-}
 
 // Appends the group of a condition.
 fn push_cond(code: &mut Code, cond: &Cond) -> Result<(), NoMemory>
@@ -48,7 +29,16 @@ fn push_cond(code: &mut Code, cond: &Cond) -> Result<(), NoMemory>
         param: cond.param,
         negated: cond.negated,
     };
-    push_test(code, group, &cond.test)
+    match &cond.test {
+        Test::OneOf(numbers) => push_numbers(code, group, numbers.as_slice()),
+        Test::Range { lo, hi } => {
+            let (lo, hi) = (*lo, *hi);
+            group.push(code, Options::empty(), OpKind::Range { lo, hi }, true)
+        }
+        Test::Mask(mask) => group.push(code, Options::empty(), OpKind::Mask(*mask), true),
+        Test::Equal(text) => group.push_string(code, text.as_units()),
+        Test::Like(pattern) => push_pattern(code, group, pattern.cells()),
+    }
 }
 
 // Appends the groups of conditions.

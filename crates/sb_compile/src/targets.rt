@@ -57,11 +57,8 @@ fn compile_all(alloc: Global, policies: &WellMadePolicies) -> Result<ProgramList
 fn numbers_of(alloc: Global, targets: &[TargetScript]) -> Result<PolicyNumbers, NoMemory>
     ensures { IfOk result (λ numbers. numbers ≡ map (λ target. target.policy) targets.now) }
 {
-    let mut items = Vec::new(alloc);
-    for target in targets {
-        items.push(target.policy)?;
-    }
-    Ok(PolicyNumbers::new(items))
+    let numbers = targets.iter().map(|target| target.policy).collect(alloc)?;
+    Ok(PolicyNumbers::new(numbers))
 }
 
 impl<'a> Programs<'a> {

@@ -1,13 +1,13 @@
 // The names in generated scripts. Each is an ASCII text that ends with a number in decimal.
-ghost use Rattle.std.specs.Prelude.{◌≡◌, ◌++◌, IfOk, codes};
+ghost use Rattle.std.specs.Prelude.{◌≡◌, ◌++◌, IfOk};
 ghost use Rattle.std.specs.Fmt.{decimal};
-ghost use Rattle.sb_gen.specs.Calls.{directory, name_within, root_name, other_name};
+ghost use Rattle.sb_gen.specs.Calls.{directory, name_within};
 
 use sb_base::{NoMemory, Wide, put_named};
 use std::alloc::Global;
 
 // An ASCII text.
-fn ascii(alloc: Global, text: &[u8]) -> Result<Wide, NoMemory>
+pub(crate) fn ascii(alloc: Global, text: &[u8]) -> Result<Wide, NoMemory>
     ensures { IfOk result (λ units. units ≡ text.now) }
 {
     let mut units = Vec::with_capacity(alloc, text.len())?;
@@ -17,22 +17,8 @@ fn ascii(alloc: Global, text: &[u8]) -> Result<Wide, NoMemory>
     Ok(Wide::new(units))
 }
 
-// The text of a ping.
-pub(crate) fn made_text(alloc: Global) -> Result<Wide, NoMemory>
-    ensures { IfOk result (λ text. text ≡ codes "made") }
-{
-    ascii(alloc, b"made")
-}
-
-// `\make`: the directory that holds those of all targets.
-pub(crate) fn make_directory(alloc: Global) -> Result<Wide, NoMemory>
-    ensures { IfOk result (λ name. name ≡ codes "\\make") }
-{
-    ascii(alloc, b"\\make")
-}
-
 // An ASCII text and a number in decimal.
-fn numbered(alloc: Global, text: &[u8], number: u64) -> Result<Wide, NoMemory>
+pub(crate) fn numbered(alloc: Global, text: &[u8], number: u64) -> Result<Wide, NoMemory>
     ensures { IfOk result (λ name. name ≡ text.now ++ decimal number) }
 {
     let mut name = Vec::new(alloc);
@@ -55,18 +41,4 @@ pub(crate) fn name_within(alloc: Global, target: u32, number: u64) -> Result<Wid
     put_named(&mut name, b"\\make\\a", u64::from(target))?;
     put_named(&mut name, b"\\k", number)?;
     ascii(alloc, &name)
-}
-
-// `\kK`: a name in the root.
-pub(crate) fn root_name(alloc: Global, number: u64) -> Result<Wide, NoMemory>
-    ensures { IfOk result (λ name. name ≡ root_name number) }
-{
-    numbered(alloc, b"\\k", number)
-}
-
-// `\other\kK`: a name in a directory that is not there.
-pub(crate) fn other_name(alloc: Global, number: u64) -> Result<Wide, NoMemory>
-    ensures { IfOk result (λ name. name ≡ other_name number) }
-{
-    numbered(alloc, b"\\other\\k", number)
 }

@@ -1,36 +1,20 @@
 // The generated script.
-ghost use Rattle.std.specs.Prelude.{◌≡◌, ◌<◌, ◌≤◌, ◌∷◌, ◌++◌, [], IfOk, OnOk, codes};
-ghost use Rattle.sb_gen.specs.Generator.{next, after};
+ghost use Rattle.std.specs.Prelude.{◌≡◌, ◌<◌, ◌≤◌, ◌∷◌, ◌++◌, [], IfOk, OnOk};
+ghost use Rattle.sb_gen.specs.Generator.{after};
 ghost use Rattle.sb_statements.specs.Limits.{most_targets};
-ghost use Rattle.sb_statements.specs.declared.scripts.StartLine.TheVariants.{Dir};
-ghost use Rattle.sb_gen.specs.Calls.{directory, statement_of, statements_of};
+ghost use Rattle.sb_gen.specs.Calls.{statements_of};
 ghost use Rattle.sb_gen.specs.Scripts.{directories_of, start_of, name_of, threads_of, target_of, targets_of, script_of};
 
 use crate::calls::statement;
 use crate::generator::Generator;
-use crate::names::{directory, make_directory};
+use crate::names::{ascii, directory};
 use sb_base::NoMemory;
 use sb_call::ShortName;
-use sb_statements::{
-    Script, StartLine, StartLines, Statement, Statements, TargetScript, Targets, Threads,
-};
+use sb_statements::{Script, StartLine, StartLines, Statements, TargetScript, Targets, Threads};
 use std::alloc::Global;
 
 // How many loads or rounds a call waits.
 const PATIENCE: u32 = 10_000;
-
-// The next statement of a target's thread.
-fn next_statement(
-    alloc: Global,
-    target: u32,
-    generator: &mut Generator,
-) -> Result<Statement, NoMemory>
-    ensures made { IfOk result (λ made. made ≡ statement_of target (next generator.old)) }
-    ensures after { generator.new ≡ next generator.old }
-{
-    generator.advance();
-    statement(alloc, target, generator)
-}
 
 // The next statements of a target's thread.
 fn statements(
@@ -45,25 +29,11 @@ fn statements(
     let mut statements = Vec::with_capacity(alloc, calls as usize)?;
     let mut left = calls;
     while left > 0 {
-        statements.push(next_statement(alloc, target, generator)?)?;
+        generator.advance();
+        statements.push(statement(alloc, target, generator)?)?;
         left -= 1;
     }
     Ok(Statements::new(statements))
-}
-
-// Appends the next thread of a target.
-fn put_thread(
-    alloc: Global,
-    target: u32,
-    calls: u32,
-    generator: &mut Generator,
-    threads: &mut Vec<Statements>,
-) -> Result<(), NoMemory>
-    ensures made { OnOk result (threads.new.items ≡ threads.old.items ++ statements_of target calls generator.old ∷ []) }
-    ensures after { OnOk result (generator.new ≡ after calls generator.old) }
-{
-    threads.push(statements(alloc, target, calls, generator)?)?;
-    Ok(())
 }
 
 // The two threads of a target.
@@ -77,8 +47,8 @@ fn threads(
     ensures after { OnOk result (generator.new ≡ after calls (after calls generator.old)) }
 {
     let mut threads = Vec::with_capacity(alloc, 2)?;
-    put_thread(alloc, target, calls, generator, &mut threads)?;
-    put_thread(alloc, target, calls, generator, &mut threads)?;
+    threads.push(statements(alloc, target, calls, generator)?)?;
+    threads.push(statements(alloc, target, calls, generator)?)?;
     Ok(Threads::new(threads))
 }
 
@@ -131,33 +101,19 @@ fn targets(
     Ok(Targets::new(targets))
 }
 
-// The directory of a target, as an object of the start.
-fn start_line(alloc: Global, target: u32) -> Result<StartLine, NoMemory>
-    ensures { IfOk result (λ line. line ≡ Dir (directory target)) }
-{
-    Ok(StartLine::Dir {
-        name: directory(alloc, target)?,
-    })
-}
-
-// The directory of all targets, as an object of the start.
-fn first_line(alloc: Global) -> Result<StartLine, NoMemory>
-    ensures { IfOk result (λ line. line ≡ Dir (codes "\\make")) }
-{
-    Ok(StartLine::Dir {
-        name: make_directory(alloc)?,
-    })
-}
-
 // What is there at the start.
 fn start(alloc: Global, count: u32) -> Result<StartLines, NoMemory>
     requires { count ≤ most_targets }
     ensures { IfOk result (λ start. start ≡ start_of count) }
 {
     let mut start = Vec::with_capacity(alloc, count as usize + 1)?;
-    start.push(first_line(alloc)?)?;
+    start.push(StartLine::Dir {
+        name: ascii(alloc, b"\\make")?,
+    })?;
     for target in 0..count {
-        start.push(start_line(alloc, target)?)?;
+        start.push(StartLine::Dir {
+            name: directory(alloc, target)?,
+        })?;
     }
     Ok(StartLines::new(start))
 }

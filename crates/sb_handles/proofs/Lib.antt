@@ -4,5 +4,5 @@ pub mod SlotLemmas
 pub mod TableLaws
 pub mod ConflictLaws
 pub mod HistoryLaws
-pub mod Lowest
-pub mod Covering
+pub mod CountLemmas
+pub mod Recounting

@@ -3,7 +3,7 @@ pub mod Effects
 pub mod Histories
 pub mod Laws
 pub mod Masks
-pub mod Sets
+pub mod Counts
 pub mod Shares
 pub mod Slots
 pub mod Tables

@@ -2,10 +2,10 @@
 // Accesses and sharing are those of CreateFile and NtCreateFile (the tables of share modes in their documentation).
 #![tactic(auto)]
 
+mod counts;
 mod laws;
 mod masks;
 mod objects;
-mod sets;
 mod shares;
 mod tables;
 

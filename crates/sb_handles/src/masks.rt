@@ -1,43 +1,26 @@
 // Accesses and sharing, sets of 32 bits. Contracts name each by its number.
 ghost use Rattle.std.specs.Prelude.{⊤, ◌∷◌, [], codes};
 
-use bitflags::{Flag, Flags};
+use bitflags::{Flag, Flags, bitflag_items};
 
 /// An access mask (`ACCESS_MASK`). All bits are kept; those that have no name take no part in sharing.
 #[derive(Clone, Copy)]
 pub struct Access(u32);
 
-impl Access {
-    /// The bits that read data or execute, by themselves or by a generic right.
-    pub const READS: Access = Access(0xB000_0021);
+bitflag_items! {
+    impl Access: u32 {
+        /// The bits that read data or execute, by themselves or by a generic right.
+        const READS = 0xB000_0021;
 
-    /// The bits that write or append data, by themselves or by a generic right.
-    pub const WRITES: Access = Access(0x5000_0006);
+        /// The bits that write or append data, by themselves or by a generic right.
+        const WRITES = 0x5000_0006;
 
-    /// The bits that delete, by themselves or by the generic right to all.
-    pub const DELETES: Access = Access(0x1001_0000);
+        /// The bits that delete, by themselves or by the generic right to all.
+        const DELETES = 0x1001_0000;
 
-    /// The right to delete alone.
-    pub const DELETE: Access = Access(0x1_0000);
-
-    const FLAGS: &'static [Flag<Access>] = &[
-        Flag {
-            name: "READS",
-            value: Access::READS,
-        },
-        Flag {
-            name: "WRITES",
-            value: Access::WRITES,
-        },
-        Flag {
-            name: "DELETES",
-            value: Access::DELETES,
-        },
-        Flag {
-            name: "DELETE",
-            value: Access::DELETE,
-        },
-    ];
+        /// The right to delete alone.
+        const DELETE = 0x1_0000;
+    }
 }
 
 impl Flags for Access {
@@ -67,37 +50,20 @@ impl Flags for Access {
 #[derive(Clone, Copy)]
 pub struct Sharing(u32);
 
-impl Sharing {
-    /// Others may read.
-    pub const READ: Sharing = Sharing(1);
+bitflag_items! {
+    impl Sharing: u32 {
+        /// Others may read.
+        const READ = 1;
 
-    /// Others may write.
-    pub const WRITE: Sharing = Sharing(2);
+        /// Others may write.
+        const WRITE = 2;
 
-    /// Others may delete.
-    pub const DELETE: Sharing = Sharing(4);
+        /// Others may delete.
+        const DELETE = 4;
 
-    /// Others may read, write and delete.
-    pub const ALL: Sharing = Sharing(7);
-
-    const FLAGS: &'static [Flag<Sharing>] = &[
-        Flag {
-            name: "READ",
-            value: Sharing::READ,
-        },
-        Flag {
-            name: "WRITE",
-            value: Sharing::WRITE,
-        },
-        Flag {
-            name: "DELETE",
-            value: Sharing::DELETE,
-        },
-        Flag {
-            name: "ALL",
-            value: Sharing::ALL,
-        },
-    ];
+        /// Others may read, write and delete.
+        const ALL = 7;
+    }
 }
 
 impl Flags for Sharing {

@@ -1,13 +1,13 @@
 // Which accesses to one object may be open at the same time.
-ghost use Rattle.std.specs.Prelude.{◌≡◌, ℕ, [], false, OnOk, OnErr};
-ghost use Rattle.std.specs.BTreeMap.{get, insert_entry, is_at};
-ghost use Rattle.sb_base.specs.Orders.{by_pair};
-ghost use Rattle.sb_handles.specs.Sets.{IsWithin, KeepsOthers, membership_in, membership_of};
+ghost use Rattle.std.specs.Prelude.{◌≡◌, ℕ, [], true, is_some, OnOk, OnErr};
+ghost use Rattle.std.specs.BTreeMap.{get};
+ghost use Rattle.std.specs.Ordering.{nat_cmp};
+ghost use Rattle.sb_handles.specs.Counts.{AreRecounted, IsChangeable, kept, kinds_of};
 ghost use Rattle.sb_handles.specs.Shares.{SharesRise, conflict_of, opened, left_on};
 
+use crate::counts::{Counts, kinds_of};
 use crate::masks::{Access, Sharing};
 use crate::objects::Share;
-use crate::sets::{Sets, membership_of};
 use sb_base::NoMemory;
 use std::alloc::Global;
 use std::collections::BTreeMap;
@@ -21,46 +21,52 @@ use std::marker::Model;
 pub struct ShareTable {
     // By object and handle.
     shares: BTreeMap<(u64, u64), Share>,
-    // The same handles, and no others, by what they do and do not share.
-    sets: Sets,
+    // What the handles of each object that was opened do and share.
+    counts: BTreeMap<u64, Counts>,
 }
 
 // Written out, so that it is proved once and not at each place that drops one.
 impl Drop for ShareTable {
     fn drop(self) {
-        let ShareTable { shares: _, sets: _ } = self;
+        let ShareTable {
+            shares: _,
+            counts: _,
+        } = self;
     }
 }
 
 impl Model for ShareTable {
     ghost use Rattle.std.specs.BTreeMap.{get};
-    ghost use Rattle.sb_handles.specs.Sets.{HasShares};
+    ghost use Rattle.std.specs.Ordering.{nat_cmp};
+    ghost use Rattle.sb_handles.specs.Counts.{AreCounted};
     ghost use Rattle.sb_handles.specs.Shares.{Shares};
-    ghost use Rattle.sb_base.specs.Orders.{by_pair};
 
     ghost Value = { Shares };
 
     ghost view = { λ t. t.shares.entries };
 
-    ghost invariant = { λ t. HasShares (get by_pair t.shares) t.sets };
+    ghost invariant = { λ t. AreCounted t.shares.entries (get nat_cmp t.counts) };
 }
 
-// Enters the share of a handle. If there is no memory, sets may have the handle to which it does not belong.
-fn enter(
-    shares: &mut BTreeMap<(u64, u64), Share>,
-    sets: &mut Sets,
-    key: (u64, u64),
-    share: Share,
-) -> Result<(), NoMemory>
-    requires listed { membership_in sets.old key ≡ membership_of (get by_pair shares.old key) }
-    ensures ok { OnOk result (shares.new.entries ≡ insert_entry by_pair shares.old.entries key share) }
-    ensures err { OnErr result (shares.new.entries ≡ shares.old.entries) }
-    ensures others { (q : ℕ × ℕ) → is_at (by_pair key) q ≡ false → get by_pair shares.new q ≡ get by_pair shares.old q }
-    ensures sets { KeepsOthers sets.old sets.new key }
-    ensures listed { IsWithin (membership_of (get by_pair shares.new key)) (membership_in sets.new key) }
+// Counts a handle of an object by its share, and no longer by that before.
+fn recount(counts: &mut BTreeMap<u64, Counts>, object: u64, was: Option<Share>, is: Option<Share>)
+    requires there { is_some (get nat_cmp counts.old object) ≡ true }
+    requires counted { IsChangeable (kept (get nat_cmp counts.old object)) (kinds_of was) }
+    ensures { AreRecounted object (kinds_of was) (kinds_of is) (get nat_cmp counts.old) (get nat_cmp counts.new) }
 {
-    sets.note(key, membership_of(Some(share)))?;
-    shares.insert(key, share)?;
+    if let Some(counts) = counts.get_mut(&object) {
+        *counts = counts.after(kinds_of(was), kinds_of(is));
+    }
+}
+
+// Makes sure that counts are kept of an object.
+fn keep(counts: &mut BTreeMap<u64, Counts>, object: u64) -> Result<(), NoMemory>
+    ensures same { (o : ℕ) → kept (get nat_cmp counts.new o) ≡ kept (get nat_cmp counts.old o) }
+    ensures there { OnOk result (is_some (get nat_cmp counts.new object) ≡ true) }
+{
+    if !counts.contains_key(&object) {
+        counts.insert(object, Counts::new())?;
+    }
     Ok(())
 }
 
@@ -71,21 +77,19 @@ impl ShareTable {
     {
         ShareTable {
             shares: BTreeMap::new(alloc),
-            sets: Sets::new(alloc),
+            counts: BTreeMap::new(alloc),
         }
     }
 
-    /// The lowest open handle of an object with which a new access and its sharing conflict. It looks for it in ordered
-    /// sets of the handles that do, or do not share, what the new access excludes, and not at all handles of the object.
-    pub fn check(&self, object: u64, access: Access, sharing: Sharing) -> Option<u64>
-        ensures { result ≡ conflict_of self.now object access.0 sharing.0 }
+    /// Whether a new access with its sharing conflicts with an open handle of an object. The time does not depend on how many are open.
+    pub fn has_conflict(&self, object: u64, access: Access, sharing: Sharing) -> bool
+        ensures { result ≡ is_some (conflict_of self.now object access.0 sharing.0) }
     {
-        let _count = self.shares.len();
-        self.sets
-            .lowest_conflict(&self.shares, object, access, sharing)
+        let counts = self.counts.get(&object).copied();
+        counts.unwrap_or(Counts::new()).excludes(access, sharing)
     }
 
-    /// Opens an object with an access and its sharing, under a handle, whether or not it conflicts: `check` says so. A share
+    /// Opens an object with an access and its sharing, under a handle, whether or not it conflicts: `has_conflict` tells. A share
     /// that the handle had of the object is replaced.
     ///
     /// # Errors
@@ -100,21 +104,23 @@ impl ShareTable {
         ensures ok { OnOk result (self.new ≡ opened self.old object handle (record { access = access; sharing = sharing })) }
         ensures err { OnErr result (self.new ≡ self.old) }
     {
-        let key = (object, handle);
         let share = Share { access, sharing };
-        let entered = enter(&mut self.shares, &mut self.sets, key, share);
-        let now = self.shares.get(&key).copied();
-        self.sets.trim(key, membership_of(now));
-        entered
+        let _count = self.shares.len();
+        keep(&mut self.counts, object)?;
+        let was = self.shares.insert((object, handle), share)?;
+        recount(&mut self.counts, object, was, Some(share));
+        Ok(())
     }
 
     /// Takes out the share that a handle has of an object, if it has one.
     pub fn leave(&mut self, object: u64, handle: u64)
         ensures { self.new ≡ left_on self.old object handle }
     {
-        let key = (object, handle);
-        self.shares.remove(&key);
-        self.sets.trim(key, membership_of(None));
+        let _count = self.shares.len();
+        let was = self.shares.remove(&(object, handle));
+        if self.counts.contains_key(&object) {
+            recount(&mut self.counts, object, was, None);
+        }
     }
 
     /// Establishes for a proof that the shares rise strictly, by object and then by handle. It does nothing.

@@ -59,6 +59,31 @@ up bounds rising slot (suc more) h =
     let e : slot + suc more ≡ suc (slot + more) = omega arith in
     omega (arith, before, rising (slot + more) (omega (arith, h)), first_after bounds (slot + more), ap (first_of bounds) e)
 
+-- so do the bounds
+pub bounds_rise : (bounds : List ℕ) → IsRising bounds → (i j : ℕ) → i ≤ j → j < length bounds → slice_index_or bounds i 0 ≤ slice_index_or bounds j 0
+bounds_rise bounds rising i j le within =
+    let at : suc i + (j - i) ≡ suc j = omega (arith, le) in
+    let higher = up bounds rising (suc i) (j - i) (omega (arith, at, within)) in
+    omega (arith, higher, first_after bounds i, first_after bounds j, ap (first_of bounds) at)
+
+-- a number below the next bound is in the slot before it
+pub ends_after : (bounds : List ℕ) (number slot : ℕ) → number < 2 ^ 64 → (slot < length bounds → number < slice_index_or bounds slot 0) → number ≤ last_of bounds slot
+ends_after bounds number slot small below = by (ltb slot (length bounds)) refl
+  where
+    by : (b : Bool) → ltb slot (length bounds) ≡ b → number ≤ cond b (slice_index_or bounds slot 0 - 1) (2 ^ 64 - 1)
+    by true t = omega (arith, below (ltb-true slot (length bounds) t))
+    by false t = omega (arith, small)
+
+-- a number that is no bound is in the slot after the last bound below it
+pub slot_found : (bounds : List ℕ) (number slot : ℕ) → number < 2 ^ 64
+    → (slot ≤ length bounds) × ((k : ℕ) → k < slot → slice_index_or bounds k 0 < number) × ((k : ℕ) → slot ≤ k → k < length bounds → number < slice_index_or bounds k 0)
+    → (first_of bounds slot ≤ number) × (number ≤ last_of bounds slot)
+slot_found bounds number zero small (within, below, above) = (omega arith, ends_after bounds number zero small (above zero (omega arith)))
+slot_found bounds number (suc slot) small (within, below, above) = (
+  omega (arith, first_after bounds slot, below slot (omega arith)),
+  ends_after bounds number (suc slot) small (above (suc slot) (omega arith)),
+)
+
 last_inside : (bounds : List ℕ) (slot : ℕ) → slot < length bounds → last_of bounds slot ≡ slice_index_or bounds slot 0 - 1
 last_inside bounds slot h = ap (λ b. cond b (slice_index_or bounds slot 0 - 1) (2 ^ 64 - 1)) (lt-ltb slot (length bounds) h)
 

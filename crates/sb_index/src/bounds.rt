@@ -88,24 +88,9 @@ impl Bounds {
         ensures rising { IsRising self.now }
         ensures small { number < 2 ^ 64 }
     {
-        slot_of(&self.items, number)
-    }
-}
-
-fn slot_of(bounds: &[u64], number: u64) -> usize
-    ensures within { result ≤ length bounds.now }
-    ensures first { first_of bounds.now result ≤ number }
-    ensures last { number ≤ last_of bounds.now result }
-{
-    let mut low = 0;
-    let mut high = bounds.len();
-    while low < high {
-        let middle = low + (high - low) / 2;
-        if bounds[middle] <= number {
-            low = middle + 1;
-        } else {
-            high = middle;
+        match self.items.binary_search(&number) {
+            Ok(bound) => bound + 1,
+            Err(slot) => slot,
         }
     }
-    low
 }

@@ -43,11 +43,7 @@ pub fn key(units: &[u16]) -> u64
 pub fn rest_after(units: &[u16], skip: usize) -> &[u16]
     ensures { result.now ≡ drop skip units.now }
 {
-    if skip > units.len() {
-        return &[];
-    }
-    let (_, later) = units.split_at(skip);
-    later
+    units.get(skip..).unwrap_or(&[])
 }
 
 // The first digit of cells, and the cells after it. From the first cell that is no literal on, the digit is `fill`.

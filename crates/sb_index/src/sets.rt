@@ -76,10 +76,7 @@ impl RuleSet {
         ensures one { result ≡ false → HasAtMostOne self.now }
     {
         match self.next_from(0) {
-            Some(first) => match self.next_from(first + 1) {
-                Some(_) => true,
-                None => false,
-            },
+            Some(first) => self.next_from(first + 1).is_some(),
             None => false,
         }
     }

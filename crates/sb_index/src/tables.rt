@@ -6,7 +6,7 @@ ghost use Rattle.sb_index.specs.Questions.{value_of, number_in, units_in};
 ghost use Rattle.sb_index.specs.Bounds.{first_of, last_of};
 ghost use Rattle.sb_index.specs.Questions.{meets};
 ghost use Rattle.sb_index.specs.Sets.{has};
-ghost use Rattle.sb_index.specs.Tables.{AreSlots, IsTable, rules_for};
+ghost use Rattle.sb_index.specs.Tables.{IsTable, rules_for};
 ghost use Rattle.sb_index.specs.declared.questions.Question.TheVariants.{Within};
 
 use crate::bounds::Bounds;
@@ -59,23 +59,6 @@ fn value_of(feature: Feature, args: &[Arg]) -> u64
     }
 }
 
-// The sets of the slots.
-fn sets_of(
-    alloc: Global,
-    rules: &[Rule],
-    tag: CallTag,
-    feature: Feature,
-    bounds: &Bounds,
-) -> Result<Vec<RuleSet>, NoMemory>
-    requires { length rules.now ≤ most_rules }
-    ensures many { IfOk result (λ sets. length sets.items ≡ length bounds.now + 1) }
-    ensures slots { IfOk result (λ sets. AreSlots rules.now tag feature bounds.now sets.items) }
-{
-    let marks = marks_of(alloc, rules, tag, feature, bounds)?;
-    let sets = marks.sets(alloc, bounds.len() + 1)?;
-    Ok(sets)
-}
-
 impl Table {
     /// The table of a feature with these bounds for the rules of a tag.
     ///
@@ -92,7 +75,8 @@ impl Table {
         requires bounds { length bounds ≤ 2 * length (rules_for tag rules.now) }
         ensures { IfOk result (λ table. IsTable rules.now tag table) }
     {
-        let sets = sets_of(alloc, rules, tag, feature, &bounds)?;
+        let marks = marks_of(alloc, rules, tag, feature, &bounds)?;
+        let sets = marks.sets(alloc, bounds.len() + 1)?;
         Ok(Table {
             feature,
             bounds,

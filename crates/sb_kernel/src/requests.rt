@@ -5,7 +5,7 @@ ghost use Rattle.sb_call.specs.Arguments.{fits, kind_at};
 ghost use Rattle.sb_call.specs.declared.tags.CallTag.TheVariants as tag;
 ghost use Rattle.sb_call.specs.declared.tags.ParamKind.TheVariants as kind;
 ghost use Rattle.sb_handles.specs.Masks.{access_of, sharing_of};
-ghost use Rattle.sb_kernel.specs.Requests.{is_proper, meant, number_at, pipe_create, request_of, units_at};
+ghost use Rattle.sb_kernel.specs.Requests.{is_proper, meant, number_at, request_of, units_at};
 
 use bitflags::Flags;
 use sb_call::{Arg, CallTag, fitting_args};
@@ -182,32 +182,14 @@ fn pipe_create(args: &[Arg]) -> Option<Request<'_>>
     ensures proper { IfSome result (λ request. is_proper (meant request) ≡ true) }
 {
     let name = name_at(CallTag::PipeCreate, args, 0);
-    let mode = PipeMode::try_from(number_at(args, 1)).ok();
-    let form = PipeForm::try_from(number_at(args, 2)).ok();
-    pipe_of(name, mode, form, number_at(args, 3))
-}
-
-// A pipe.create, if its mode and form are there.
-fn pipe_of(
-    name: &[u16],
-    mode: Option<PipeMode>,
-    form: Option<PipeForm>,
-    instances: u64,
-) -> Option<Request<'_>>
-    requires { is_name_of name.now ≡ true }
-    ensures request { option_map meant result ≡ pipe_create name.now mode form instances }
-    ensures proper { IfSome result (λ request. is_proper (meant request) ≡ true) }
-{
-    match (mode, form) {
-        (Some(mode), Some(form)) => Some(Request::PipeCreate {
-            name,
-            mode,
-            form,
-            instances,
-        }),
-        (Some(_), None) => None,
-        (None, _) => None,
-    }
+    let mode = PipeMode::try_from(number_at(args, 1)).ok()?;
+    let form = PipeForm::try_from(number_at(args, 2)).ok()?;
+    Some(Request::PipeCreate {
+        name,
+        mode,
+        form,
+        instances: number_at(args, 3),
+    })
 }
 
 // What a key.create asks for.

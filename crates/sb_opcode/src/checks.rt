@@ -94,19 +94,13 @@ fn first_open(code: &Code) -> Option<u32>
 fn is_number_at(tag: CallTag, param: u32) -> bool
     ensures { result ≡ is_number_at tag param }
 {
-    match tag.param_kind(param) {
-        Some(kind) => kind.is_number(),
-        None => false,
-    }
+    matches!(tag.param_kind(param), Some(kind) if kind.is_number())
 }
 
 fn is_string_at(tag: CallTag, param: u32) -> bool
     ensures { result ≡ is_string_at tag param }
 {
-    match tag.param_kind(param) {
-        Some(kind) => !kind.is_number(),
-        None => false,
-    }
+    matches!(tag.param_kind(param), Some(kind) if !kind.is_number())
 }
 
 fn is_misplaced(tag: CallTag, opcode: &Opcode<'_>) -> bool
@@ -146,8 +140,6 @@ pub(crate) fn fault_of(tag: CallTag, code: &Code) -> Option<CodeFault>
     if let Some(at) = first_open(code) {
         return Some(CodeFault::OpenGroup(at));
     }
-    match first_misplaced(tag, code) {
-        Some(at) => Some(CodeFault::BadParam(at)),
-        None => None,
-    }
+    let at = first_misplaced(tag, code)?;
+    Some(CodeFault::BadParam(at))
 }

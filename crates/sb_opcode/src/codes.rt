@@ -260,6 +260,19 @@ impl Code {
         }
     }
 
+    // Appends a text opcode whose cells are these words. After an error the code is as it was.
+    fn push_cells(&mut self, look: Look, seek: Seek, cells: &[u64]) -> Result<(), NoMemory>
+        requires { length self.old + 1 < 2 ^ 32 }
+        ensures ok { OnOk result (self.new ≡ self.old ++ text_opcode look (map cell_of cells.now) seek ∷ []) }
+        ensures err { OnErr result (self.new ≡ self.old) }
+    {
+        self.push(Opcode {
+            kind: OpKind::Text { cells, seek },
+            param: look.param,
+            options: look.options,
+        })
+    }
+
     /// Appends a text opcode with these cells. After an error the code is as it was.
     ///
     /// # Errors
@@ -270,16 +283,7 @@ impl Code {
         ensures err { OnErr result (self.new ≡ self.old) }
     {
         let cells = cell_words(*self.words.allocator(), cells)?;
-        let kind = OpKind::Text {
-            cells: &cells,
-            seek,
-        };
-        let Look { param, options } = look;
-        self.push(Opcode {
-            kind,
-            param,
-            options,
-        })
+        self.push_cells(look, seek, &cells)
     }
 
     /// Appends a text opcode whose fragment is this string and is compared at the position. After an error the code is as it was.
@@ -292,16 +296,7 @@ impl Code {
         ensures err { OnErr result (self.new ≡ self.old) }
     {
         let cells = unit_words(*self.words.allocator(), units)?;
-        let kind = OpKind::Text {
-            cells: &cells,
-            seek: Seek::Skip(0),
-        };
-        let Look { param, options } = look;
-        self.push(Opcode {
-            kind,
-            param,
-            options,
-        })
+        self.push_cells(look, Seek::Skip(0), &cells)
     }
 
     #[tactic(auto, using(crate::proofs::PackingLemmas::packing_of_opcodes))]

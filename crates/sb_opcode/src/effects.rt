@@ -68,13 +68,7 @@ pub(crate) fn after_opcode<'a>(opcode: &Opcode<'_>, place: Place<'a>) -> Option<
     ensures { option_map arg_from result ≡ after_opcode (opcode_of opcode.now) (arg_from place.entry) }
 {
     match place {
-        Place::Number(value) => {
-            if number_holds(opcode, value) {
-                Some(Place::Number(value))
-            } else {
-                None
-            }
-        }
+        Place::Number(value) => number_holds(opcode, value).then_some(place),
         Place::Units(units) => {
             let left = units_left(opcode, units)?;
             Some(Place::Units(left))

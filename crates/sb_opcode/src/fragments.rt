@@ -52,11 +52,7 @@ pub(crate) fn has_front(cells: &[u64], whole: bool, units: &[u16]) -> bool
 fn after_units(count: u16, units: &[u16]) -> Option<&[u16]>
     ensures { option_map (λ us. us.now) result ≡ after_units count units.now }
 {
-    if count as usize > units.len() {
-        return None;
-    }
-    let (_, later) = units.split_at(count as usize);
-    Some(later)
+    units.get(count as usize..)
 }
 
 fn after_first<'a>(folding: bool, cells: &[u64], units: &'a [u16]) -> Option<&'a [u16]>

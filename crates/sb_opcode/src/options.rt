@@ -1,50 +1,29 @@
 // The options of an opcode.
 ghost use Rattle.std.specs.Prelude.{⊤, ◌∷◌, [], codes};
 
-use bitflags::{Flag, Flags};
+use bitflags::{Flag, Flags, bitflag_items};
 
 /// The options of an opcode, a set of bits. Bits that have no name are kept and mean nothing.
 #[derive(Clone, Copy)]
 pub struct Options(u8);
 
-impl Options {
-    /// The result of the group is negated. It is set on the last opcode of a group.
-    pub const NEGATE: Options = Options(1);
+bitflag_items! {
+    impl Options: u8 {
+        /// The result of the group is negated. It is set on the last opcode of a group.
+        const NEGATE = 1;
 
-    /// The opcode is the last of its group.
-    pub const CLEAR: Options = Options(2);
+        /// The opcode is the last of its group.
+        const CLEAR = 2;
 
-    /// The opcode is one of a group of which one is to hold; without it all are.
-    pub const OR: Options = Options(4);
+        /// The opcode is one of a group of which one is to hold; without it all are.
+        const OR = 4;
 
-    /// Units are compared after folding.
-    pub const FOLD: Options = Options(8);
+        /// Units are compared after folding.
+        const FOLD = 8;
 
-    /// The string is to end with the fragment.
-    pub const EXACT: Options = Options(16);
-
-    const FLAGS: &'static [Flag<Options>] = &[
-        Flag {
-            name: "NEGATE",
-            value: Options::NEGATE,
-        },
-        Flag {
-            name: "CLEAR",
-            value: Options::CLEAR,
-        },
-        Flag {
-            name: "OR",
-            value: Options::OR,
-        },
-        Flag {
-            name: "FOLD",
-            value: Options::FOLD,
-        },
-        Flag {
-            name: "EXACT",
-            value: Options::EXACT,
-        },
-    ];
+        /// The string is to end with the fragment.
+        const EXACT = 16;
+    }
 }
 
 impl Flags for Options {

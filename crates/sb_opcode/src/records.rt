@@ -203,79 +203,36 @@ fn first_known<'a>(words: &'a [u64]) -> Option<(Opcode<'a>, &'a [u64])>
     }
 }
 
-// That the argument of a parameter is this number: an opcode that is a group of its own and is not negated.
-#[derive(Clone, Copy)]
-pub(crate) struct NumberTest {
-    pub param: u32,
-    pub number: u64,
-}
-
-// The first opcode of packed words and the words after it, if it is a number test that is a group of its own.
+// The parameter and the number of the first opcode of packed words, and the words after it, if it tests for a number, is a group of its own and
+// is not negated.
 #[inline(always)]
-pub(crate) fn number_known(words: &[u64]) -> Option<(NumberTest, &[u64])>
-    ensures { MatchOption result (begins_with_number words.now ≡ false) (λ r. Some (number_opcode r.0.param r.0.number, r.1.now) ≡ first_known words.now) }
+pub(crate) fn number_known(words: &[u64]) -> Option<(u32, u64, &[u64])>
+    ensures { MatchOption result (begins_with_number words.now ≡ false) (λ r. Some (number_opcode r.0 r.1, r.2.now) ≡ first_known words.now) }
 {
     match words {
-        [head, param, number, _, later @ ..] => {
-            if *head != NUMBER_HEAD {
-                return None;
-            }
-            let param = (*param & 0xffff_ffff) as u32;
-            let number = *number;
-            Some((NumberTest { param, number }, later))
+        [head, param, number, _, later @ ..] if *head == NUMBER_HEAD => {
+            Some(((*param & 0xffff_ffff) as u32, *number, later))
         }
         _ => None,
     }
 }
 
-// That the string of a parameter begins with these cells, folded, and has no unit after them if it is to be the whole: an opcode that
-// is a group of its own and is not negated.
-#[derive(Clone, Copy)]
-pub(crate) struct FrontTest<'a> {
-    pub param: u32,
-    pub cells: &'a [u64],
-    pub whole: bool,
-}
-
-// The first opcode of packed words and the words after it, if it is a test for the front of a string that is a group of its own.
+// The parameter and the cells of the first opcode of packed words, whether they are the whole string, and the words after it, if it tests for the
+// front of a string, folded, is a group of its own and is not negated.
 #[inline(always)]
 #[tactic(auto, using(crate::proofs::KnownLemmas::cells_there))]
-pub(crate) fn front_known<'a>(words: &'a [u64]) -> Option<(FrontTest<'a>, &'a [u64])>
+pub(crate) fn front_known<'a>(words: &'a [u64]) -> Option<(u32, &'a [u64], bool, &'a [u64])>
     requires { is_packed words.now ≡ true }
     ensures { MatchOption result (begins_with_front words.now ≡ false)
-        (λ r. Some (front_opcode r.0.param (map cell_of r.0.cells.now) r.0.whole, r.1.now) ≡ first_known words.now) }
+        (λ r. Some (front_opcode r.0 (map cell_of r.1.now) r.2, r.3.now) ≡ first_known words.now) }
 {
     match words {
-        [head, param, count, _, later @ ..] => {
-            if *head != FRONT_HEAD && *head != WHOLE_HEAD {
-                return None;
-            }
+        [head, param, count, _, later @ ..] if *head == FRONT_HEAD || *head == WHOLE_HEAD => {
             let param = (*param & 0xffff_ffff) as u32;
             let (cells, later) = later.split_at(*count as usize);
-            let whole = *head == WHOLE_HEAD;
-            Some((
-                FrontTest {
-                    param,
-                    cells,
-                    whole,
-                },
-                later,
-            ))
+            Some((param, cells, *head == WHOLE_HEAD, later))
         }
         _ => None,
-    }
-}
-
-// Whether packed words begin with a test for a number or for the front of a string that is a group of its own.
-#[inline(always)]
-pub(crate) fn begins_with_lone(words: &[u64]) -> bool
-    ensures { result ≡ (begins_with_number words.now || begins_with_front words.now) }
-{
-    match words {
-        [head, _, _, _, ..] => {
-            *head == NUMBER_HEAD || *head == FRONT_HEAD || *head == WHOLE_HEAD
-        }
-        _ => false,
     }
 }
 
@@ -287,14 +244,10 @@ pub(crate) fn act_known(words: &[u64]) -> Option<Verdict>
         (λ verdict. (args : List Arg) → verdict ≡ rule_walk args Between (opcodes_of words.now)) }
 {
     match words {
-        [head, _, first, second, ..] => {
-            if *head != ACT_HEAD {
-                return None;
-            }
-            let action = action_known(*first);
-            let line = line_known(*second);
-            Some(Verdict::Rule { line, action })
-        }
+        [head, _, first, second, ..] if *head == ACT_HEAD => Some(Verdict::Rule {
+            line: line_known(*second),
+            action: action_known(*first),
+        }),
         _ => None,
     }
 }

@@ -1,10 +1,9 @@
 // Where the walk over a code is within a rule, and what an opcode makes of it.
-ghost use Rattle.std.specs.Prelude.{◌≡◌, true, map};
+ghost use Rattle.std.specs.Prelude.{◌≡◌, map};
 ghost use Rattle.sb_call.specs.Arguments.{arg_at};
-ghost use Rattle.sb_opcode.specs.Groups.{is_last};
 ghost use Rattle.sb_opcode.specs.Records.{opcode_of};
 ghost use Rattle.sb_opcode.specs.Meaning.{negate_if};
-ghost use Rattle.sb_opcode.specs.Walking.{arg_from, standing_of, group_start, entered, looked_at, group_end, closed, step, is_failed, is_front, is_number, Between};
+ghost use Rattle.sb_opcode.specs.Walking.{arg_from, standing_of, group_start, entered, looked_at, group_end, closed, step, is_failed, is_front, is_number};
 ghost use Rattle.sb_opcode.specs.Unpacking.{cell_of};
 
 use crate::effects::{Place, after_opcode};
@@ -129,39 +128,8 @@ fn closed<'a>(state: State<'a>, negated: bool) -> State<'a>
     }
 }
 
-// Whether a group begins with an opcode and ends with it.
-#[inline(always)]
-fn is_alone(state: State<'_>, opcode: &Opcode<'_>) -> bool
-    ensures state { result ≡ true → standing_of state.entry ≡ Between }
-    ensures last { result ≡ true → is_last (opcode_of opcode.now) ≡ true }
-{
-    matches!(state, State::Between) && opcode.options.contains(Options::CLEAR)
-}
-
-// After the one opcode of a group.
-#[inline(always)]
-fn step_alone<'a>(opcode: &Opcode<'_>, args: &'a [Arg]) -> State<'a>
-    requires { is_last (opcode_of opcode.now) ≡ true }
-    ensures { standing_of result ≡ step args.now Between (opcode_of opcode.now) }
-{
-    let holds = after_opcode(opcode, place_at(args, opcode.param)).is_some();
-    group_end(negate_if(opcode.options.contains(Options::NEGATE), holds))
-}
-
-// After an opcode that is no action. Most groups have one opcode, and for these nothing is kept.
-#[inline(always)]
+// After an opcode that is no action.
 pub(crate) fn step<'a>(state: State<'a>, opcode: &Opcode<'_>, args: &'a [Arg]) -> State<'a>
-    ensures { standing_of result ≡ step args.now (standing_of state.entry) (opcode_of opcode.now) }
-{
-    if is_alone(state, opcode) {
-        return step_alone(opcode, args);
-    }
-    let opcode = *opcode;
-    step_within(state, &opcode, args)
-}
-
-// After an opcode that is no action, within a group of several.
-fn step_within<'a>(state: State<'a>, opcode: &Opcode<'_>, args: &'a [Arg]) -> State<'a>
     ensures { standing_of result ≡ step args.now (standing_of state.entry) (opcode_of opcode.now) }
 {
     let state = looked_at(entered(state, opcode, args), opcode);

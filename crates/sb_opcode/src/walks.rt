@@ -10,7 +10,7 @@ ghost use Rattle.sb_opcode.specs.Walking.{walk, rule_walk, begins_with_front, be
 use crate::codes::Code;
 use crate::laws::faultless_codes_are_whole;
 use crate::opcodes::OpKind;
-use crate::records::{Records, act_known, begins_with_lone, front_known, number_known};
+use crate::records::{Records, act_known, front_known, number_known};
 use crate::states::{State, is_failed, is_front, is_number, step};
 use crate::verified::Verified;
 use sb_call::Arg;
@@ -103,17 +103,16 @@ fn lone_known<'a>(words: &'a [u64], args: &[Arg]) -> Option<(bool, &'a [u64])>
     requires { is_packed words.now ≡ true }
     ensures { MatchOption result ((begins_with_number words.now ≡ false) × (begins_with_front words.now ≡ false)) (λ r. IsLone args.now words.now r.0 r.1.now) }
 {
-    if let Some((test, later)) = number_known(words) {
-        return Some((is_number(args, test.param, test.number), later));
+    if let Some((param, number, later)) = number_known(words) {
+        return Some((is_number(args, param, number), later));
     }
-    let (test, later) = front_known(words)?;
-    Some((is_front(args, test.param, test.cells, test.whole), later))
+    let (param, cells, whole, later) = front_known(words)?;
+    Some((is_front(args, param, cells, whole), later))
 }
 
 // What the first of the rules in packed words gives if it does not fail. Tests for a number or for the front of a string that it begins with,
 // each a group of its own, are made at once, as is its action if nothing else comes before it.
-#[inline(never)]
-fn walk_lone(words: &[u64], args: &[Arg]) -> Verdict
+pub(crate) fn walk_first_rule(words: &[u64], args: &[Arg]) -> Verdict
     requires { is_packed words.now ≡ true }
     ensures { result ≡ rule_walk args.now Between (opcodes_of words.now) }
 {
@@ -127,18 +126,5 @@ fn walk_lone(words: &[u64], args: &[Arg]) -> Verdict
     match act_known(rest) {
         Some(verdict) => verdict,
         None => walk_states(rest, args),
-    }
-}
-
-// The same, by the walk that is faster for what the rule begins with.
-#[inline(always)]
-pub(crate) fn walk_first_rule(words: &[u64], args: &[Arg]) -> Verdict
-    requires { is_packed words.now ≡ true }
-    ensures { result ≡ rule_walk args.now Between (opcodes_of words.now) }
-{
-    if begins_with_lone(words) {
-        walk_lone(words, args)
-    } else {
-        walk_states(words, args)
     }
 }

@@ -51,14 +51,6 @@ impl Text {
         Text { text }
     }
 
-    /// The text, given back. Does not allocate.
-    pub fn into_string(self) -> String
-        ensures { string_bytes result ≡ self }
-    {
-        let Text { text } = self;
-        text
-    }
-
     /// The text.
     pub fn as_str(&self) -> &str
         ensures { result.now ≡ self.now }

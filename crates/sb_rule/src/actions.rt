@@ -19,15 +19,15 @@ pub enum Action {
 
 impl Action {
     /// The word by which texts name the action, as `allow`.
-    pub fn word(self) -> &'static [u8]
+    pub fn word(self) -> &'static str
         ensures { result.now ≡ action_word self }
     {
         match self {
-            Action::Allow => b"allow",
-            Action::Deny => b"deny",
-            Action::Alarm => b"alarm",
-            Action::Fake => b"fake",
-            Action::ReadOnly => b"readonly",
+            Action::Allow => "allow",
+            Action::Deny => "deny",
+            Action::Alarm => "alarm",
+            Action::Fake => "fake",
+            Action::ReadOnly => "readonly",
         }
     }
 }

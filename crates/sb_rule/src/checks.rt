@@ -103,10 +103,7 @@ fn is_sensible(test: &Test) -> bool
 fn is_number_test(test: &Test) -> bool
     ensures { result ≡ is_number_test test.now }
 {
-    match test {
-        Test::OneOf(_) | Test::Range { .. } | Test::Mask(_) => true,
-        Test::Equal(_) | Test::Like(_) => false,
-    }
+    matches!(test, Test::OneOf(_) | Test::Range { .. } | Test::Mask(_))
 }
 
 fn is_well_formed(tag: CallTag, cond: &Cond) -> bool

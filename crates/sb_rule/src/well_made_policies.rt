@@ -1,9 +1,8 @@
 // Policies that are well made.
-ghost use Rattle.std.specs.Prelude.{◌≡◌, ◌↔◌, ◌≤◌, ◌<◌, true, length, slice_index_or, IsOk, IfOk, IfErr, IsSome, IfSome, MatchOption};
+ghost use Rattle.std.specs.Prelude.{◌≡◌, ◌≤◌, ◌<◌, true, length, slice_index_or, MatchOption};
 ghost use Rattle.sb_rule.specs.WellMade.{are_well_made, is_well_made};
 ghost use Rattle.sb_rule.specs.declared.policies.Policy.{Policy};
 
-use crate::checks::{all_well_made, well_made};
 use crate::policies::{Policies, Policy};
 use std::marker::Model;
 use std::ops::Deref;
@@ -33,22 +32,6 @@ impl Model for WellMadePolicies {
 }
 
 impl WellMadePolicies {
-    /// The policies, if they are well made. Does not allocate.
-    ///
-    /// # Errors
-    /// The policies, given back, exactly if they are not well made.
-    pub fn new(policies: Policies) -> Result<WellMadePolicies, Policies>
-        ensures exactly { IsOk result ↔ (are_well_made policies.list ≡ true) }
-        ensures made { IfOk result (λ made. made ≡ policies) }
-        ensures refused { IfErr result (λ given. given ≡ policies) }
-    {
-        if all_well_made(&policies) {
-            Ok(WellMadePolicies { policies })
-        } else {
-            Err(policies)
-        }
-    }
-
     /// The policies, which are known to be well made. They are not tested again. Does not allocate.
     pub fn of(policies: Policies) -> WellMadePolicies
         requires { are_well_made policies.list ≡ true }
@@ -93,7 +76,7 @@ impl Deref for WellMadePolicies {
     }
 }
 
-/// A policy that is well made: one of `WellMadePolicies`, or one that was tested. Contracts see the plain policy.
+/// A policy that is well made: one of `WellMadePolicies`. Contracts see the plain policy.
 #[derive(Drop)]
 pub struct WellMadePolicy<'a> {
     policy: &'a Policy,
@@ -112,18 +95,6 @@ impl<'a> Model for WellMadePolicy<'a> {
 }
 
 impl<'a> WellMadePolicy<'a> {
-    /// The policy, if it is well made. None exactly if it is not.
-    pub fn new(policy: &'a Policy) -> Option<WellMadePolicy<'a>>
-        ensures exactly { IsSome result ↔ (is_well_made policy.now ≡ true) }
-        ensures made { IfSome result (λ made. made ≡ policy.now) }
-    {
-        if well_made(policy) {
-            Some(WellMadePolicy { policy })
-        } else {
-            None
-        }
-    }
-
     /// The plain policy, which is well made.
     pub fn policy(&self) -> &'a Policy
         ensures policy { result.now ≡ self.now }

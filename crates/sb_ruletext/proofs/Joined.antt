@@ -1,5 +1,5 @@
 -- Items that are joined by a word: what was read, and what is left.
-use Rattle.std.proofs.Common.{◌≡◌, refl, sym, ap, ◌∙◌, ℕ, suc, ◌+◌, ◌-◌, ◌<◌, ◌≤◌, List, [], ◌∷◌, ◌++◌, None, length, length-append, true, false, Ok, Err, append_assoc, arith}
+use Rattle.std.proofs.Common.{◌≡◌, refl, sym, ap, ◌∙◌, ℕ, suc, ◌+◌, ◌-◌, ◌<◌, ◌≤◌, List, [], ◌∷◌, ◌++◌, length, length-append, true, false, Ok, Err, append_assoc, arith}
 use Rattle.sb_ruletext.specs.Steps.{excess, joined_at}
 use Rattle.sb_ruletext.specs.declared.faults.PolicyFaultKind.{PolicyFaultKind}
 use Rattle.sb_ruletext.specs.declared.faults.PolicyLimit.{PolicyLimit}

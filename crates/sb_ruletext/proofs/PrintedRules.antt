@@ -13,7 +13,7 @@ use Rattle.sb_text.specs.TokenLaws.{placed}
 use Rattle.sb_text.specs.Tokens.{Lexeme, Lexemes, Word}
 use Rattle.sb_rule.specs.Limits.{most_rules}
 use Rattle.sb_ruletext.proofs.Added.{added, behind, last_rules, policy_of}
-use Rattle.sb_ruletext.specs.Lines.{first_word_fault, when_of, rule, with_rules, with_last_rules, line_of}
+use Rattle.sb_ruletext.specs.Lines.{first_word_fault, when_of, rule, with_last_rules, line_of}
 use Rattle.sb_ruletext.specs.Printing.{conds_tokens, rule_tokens}
 use Rattle.sb_text.specs.Steps.{◌>>=◌, or_fails, unless_fails, at_token, Read}
 use Rattle.sb_text.specs.declared.refusals.TokenFault.{TokenFault}

@@ -3,7 +3,7 @@ use Rattle.std.proofs.Common.{◌≡◌, ◌∙◌, ℕ, suc, ◌+◌, ◌<◌, 
 use Rattle.std.specs.Cmp.Lexicographic.{pointwise, bytes_decides}
 use Rattle.std.specs.List.{flat_map, list_all, list_any}
 use Rattle.std.specs.Prelude.{codes, nat_eq, if◌then◌else◌}
-use Rattle.std.proofs.lemmas.Bool.{false≢true, and_from, and_parts, or_parts}
+use Rattle.std.proofs.lemmas.Bool.{and_from, and_parts, or_parts}
 use Rattle.std.proofs.lemmas.Bool.Decides.{nat_tests}
 use Rattle.std.proofs.lemmas.List.{append_assoc, append-nil, length-append}
 use Rattle.std.proofs.lemmas.List.Folds.{list_any-append}
@@ -20,7 +20,7 @@ use Rattle.sb_text.specs.declared.refusals.TokenFault.{TokenFault}
 use Rattle.sb_text.specs.declared.refusals.LineFault.{LineFault}
 use Rattle.sb_text.specs.declared.refusals.WordFault.TheVariants.{Extra, Broken}
 use Rattle.sb_ruletext.specs.Lines.{heading, line_of}
-use Rattle.sb_ruletext.specs.PolicyTexts.{add_line, grammar, reading}
+use Rattle.sb_ruletext.specs.PolicyTexts.{grammar, reading}
 use Rattle.sb_ruletext.specs.Printing.{rule_tokens, heading_tokens, policy_lines, is_read_only, has_read_only, version_tokens, printed_lines, printed, relined_rules, relined_from, relined}
 use Rattle.sb_ruletext.specs.Values.{is_rule_of_values, is_policy_of_values}
 use Rattle.sb_ruletext.specs.PrintingLaws.{PrintedPoliciesAreRead}

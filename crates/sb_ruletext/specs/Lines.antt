@@ -1,9 +1,8 @@
 -- The lines of a policy text below its version line.
-use Rattle.std.specs.Prelude.{⊤, ℕ, Bool, true, false, ◌+◌, nat_le, nat_lt, List, [], ◌∷◌, ◌++◌, length, Result, Ok, Err, if◌then◌else◌, codes}
+use Rattle.std.specs.Prelude.{ℕ, Bool, true, false, ◌+◌, nat_le, nat_lt, List, [], ◌∷◌, ◌++◌, length, Result, Ok, Err, if◌then◌else◌, codes}
 use Rattle.std.specs.List.{list_any}
 use Rattle.sb_call.specs.ShortNames.{is_short_name}
 use Rattle.sb_call.specs.declared.tags.CallTag.{CallTag}
-use Rattle.sb_rule.specs.declared.cells.Cell.{Cell}
 use Rattle.sb_rule.specs.Limits.{most_policies, most_rules}
 use Rattle.sb_rule.specs.WellMade.{is_for_readers, is_named}
 use Rattle.sb_rule.specs.declared.actions.Action.{Action}
@@ -13,7 +12,7 @@ use Rattle.sb_rule.specs.declared.policies.Rule.{Rule}
 use Rattle.sb_ruletext.specs.Conditions.{cells_at, conditions_of}
 use Rattle.sb_ruletext.specs.Grants.{grant_of, rules_of}
 use Rattle.sb_call.specs.CallWords.{is_word, tag_of_word}
-use Rattle.sb_ruletext.specs.Steps.{word_or, quoted_or, line_end}
+use Rattle.sb_ruletext.specs.Steps.{word_or, line_end}
 use Rattle.sb_ruletext.specs.Words.{action_of}
 use Rattle.sb_ruletext.specs.declared.faults.PolicyFaultKind.{PolicyFaultKind}
 use Rattle.sb_ruletext.specs.declared.faults.PolicyLimit.TheVariants.{Policies, Rules}

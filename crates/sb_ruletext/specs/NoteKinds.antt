@@ -13,10 +13,6 @@ abbrev pub may_begin_name : List ℕ → Bool
 may_begin_name [] = false
 may_begin_name (u ∷ us) = u == 92 || (u == 42 || u == 63)
 
--- what is noted of units that begin with the prefix, and that may begin a name, or not
-abbrev pub kind_by : Bool → Bool → Option NoteKind
-kind_by is_prefixed may_begin = if is_prefixed then Some UnescapedPrefix else (if may_begin then None else Some MatchesNoName)
-
 -- what is noted of the pattern of these units
 abbrev pub kind_of : List ℕ → Option NoteKind
-kind_of units = kind_by (begins_with_prefix units) (may_begin_name units)
+kind_of units = if begins_with_prefix units then Some UnescapedPrefix else (if may_begin_name units then None else Some MatchesNoName)

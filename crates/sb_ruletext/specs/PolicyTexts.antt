@@ -1,5 +1,5 @@
 -- What a policy text means: policies, or the first fault.
-use Rattle.std.specs.Prelude.{ℕ, List, [], Option, Result, codes}
+use Rattle.std.specs.Prelude.{ℕ, List, [], Result, codes}
 use Rattle.sb_rule.specs.declared.policies.Policy.{Policy}
 use Rattle.sb_ruletext.specs.Lines.{line_of}
 use Rattle.sb_ruletext.specs.declared.faults.PolicyFaultKind.{PolicyFaultKind}

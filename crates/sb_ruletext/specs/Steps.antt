@@ -1,5 +1,5 @@
 -- Readers of a policy text's lines, and items that are joined by a word.
-use Rattle.std.specs.Prelude.{⊤, ℕ, zero, suc, List, [], ◌∷◌, Result, Ok, Err, if◌then◌else◌}
+use Rattle.std.specs.Prelude.{⊤, ℕ, zero, suc, List, [], ◌∷◌, Result, Ok, if◌then◌else◌}
 use Rattle.sb_ruletext.specs.declared.faults.PolicyFaultKind.{PolicyFaultKind}
 use Rattle.sb_ruletext.specs.declared.faults.PolicyFaultKind.TheVariants.{UnknownWord, TooMany}
 use Rattle.sb_ruletext.specs.declared.faults.PolicyLimit.{PolicyLimit}

@@ -1,7 +1,7 @@
 // Reading conditions: COND and COND .., each a parameter, a test word and a value.
 ghost use Rattle.std.specs.Prelude.{◌≡◌, None, Some, MatchOption};
 ghost use Rattle.sb_rule.specs.PatternReading.{reading};
-ghost use Rattle.sb_ruletext.specs.Conditions.{number_at, numbers_at, after_dots, around_dots, range_of, range_at, cells, cells_at, string, string_at, pattern_at, is_at, in_at, has_at, like_at, test_at, parameter_at, is_number_at, plain_condition_at, condition_at, conditions_at, conditions_of};
+ghost use Rattle.sb_ruletext.specs.Conditions.{number_at, numbers_at, after_dots, around_dots, range_of, range_at, cells, cells_at, string_at, is_at, test_at, parameter_at, is_number_at, condition_at, conditions_at, conditions_of};
 ghost use Rattle.sb_ruletext.specs.Steps.{excess};
 ghost use Rattle.sb_base.specs.Refusals.{Gives};
 ghost use Rattle.sb_text.specs.Steps.{Reads, at_token, or_fault};
@@ -15,7 +15,6 @@ use crate::faults::PolicyFaultKind::{
 use crate::faults::{FitDue, LineRefused, PolicyLimit, WordDue};
 use crate::readers::{at_token, line_end, quoted_or, word_or};
 use crate::words::parameter_of;
-use sb_base::Wide;
 use sb_call::CallTag;
 use sb_rule::{
     Cond, Conds, MAX_CONDITIONS, MAX_NUMBERS, MAX_UNITS, Numbers, Pattern, PatternFault,
@@ -114,17 +113,6 @@ fn range_at(tokens: &mut Tokens) -> Result<Test, LineRefused>
     at_token(&due, range_of(word))
 }
 
-// What is between quotes, as a string of a policy, or its fault at the token that was due.
-fn string(alloc: Global, due: &Tokens, quoted: &str) -> Result<Wide, LineRefused>
-    ensures { Gives (at_token due.now (string quoted.now)) result }
-{
-    let text = string_of(alloc, quoted)?;
-    if text.len() > MAX_UNITS {
-        return Err(due.fail(BadPattern(PatternFault::TooLong)));
-    }
-    Ok(text)
-}
-
 // What is between quotes, as a pattern, or its fault in the token that was due.
 fn cells(alloc: Global, due: &Tokens, quoted: &str) -> Result<Pattern, LineRefused>
     ensures { Gives (cells due.now (reading (string_of quoted.now))) result }
@@ -164,14 +152,11 @@ fn string_at(alloc: Global, tokens: &mut Tokens) -> Result<Test, LineRefused>
 {
     let due = tokens.copy();
     let quoted = quoted_or(WrongKind(FitDue::Text), tokens)?;
-    Ok(Test::Equal(string(alloc, &due, quoted)?))
-}
-
-// "P": a pattern.
-fn pattern_at(alloc: Global, tokens: &mut Tokens) -> Result<Test, LineRefused>
-    ensures { Reads (pattern_at tokens.old) result tokens.new }
-{
-    Ok(Test::Like(cells_at(alloc, WrongKind(FitDue::Text), tokens)?))
+    let text = string_of(alloc, quoted)?;
+    if text.len() > MAX_UNITS {
+        return Err(due.fail(BadPattern(PatternFault::TooLong)));
+    }
+    Ok(Test::Equal(text))
 }
 
 // The value of `is`.
@@ -185,44 +170,6 @@ fn is_at(alloc: Global, is_number: bool, tokens: &mut Tokens) -> Result<Test, Li
     }
 }
 
-// The value of `in`; `due` begins with the test word, which does not fit a string.
-fn in_at(is_number: bool, due: &Tokens, tokens: &mut Tokens) -> Result<Test, LineRefused>
-    ensures { Reads (in_at is_number due.now tokens.old) result tokens.new }
-{
-    if is_number {
-        range_at(tokens)
-    } else {
-        Err(due.fail(WrongKind(FitDue::TextTest)))
-    }
-}
-
-// The value of `has`.
-fn has_at(is_number: bool, due: &Tokens, tokens: &mut Tokens) -> Result<Test, LineRefused>
-    ensures { Reads (has_at is_number due.now tokens.old) result tokens.new }
-{
-    if is_number {
-        Ok(Test::Mask(number_at(tokens)?))
-    } else {
-        Err(due.fail(WrongKind(FitDue::TextTest)))
-    }
-}
-
-// The value of `like`.
-fn like_at(
-    alloc: Global,
-    is_number: bool,
-    due: &Tokens,
-    tokens: &mut Tokens,
-) -> Result<Test, LineRefused>
-    ensures { Reads (like_at is_number due.now tokens.old) result tokens.new }
-{
-    if is_number {
-        Err(due.fail(WrongKind(FitDue::NumberTest)))
-    } else {
-        pattern_at(alloc, tokens)
-    }
-}
-
 // A test word, and a value that fits it.
 #[tactic(auto, unfolding(crate::specs::Conditions::test_at))]
 fn test_at(alloc: Global, is_number: bool, tokens: &mut Tokens) -> Result<Test, LineRefused>
@@ -233,11 +180,20 @@ fn test_at(alloc: Global, is_number: bool, tokens: &mut Tokens) -> Result<Test, 
     if word == b"is".as_slice() {
         is_at(alloc, is_number, tokens)
     } else if word == b"in".as_slice() {
-        in_at(is_number, &due, tokens)
+        if !is_number {
+            return Err(due.fail(WrongKind(FitDue::TextTest)));
+        }
+        range_at(tokens)
     } else if word == b"has".as_slice() {
-        has_at(is_number, &due, tokens)
+        if !is_number {
+            return Err(due.fail(WrongKind(FitDue::TextTest)));
+        }
+        Ok(Test::Mask(number_at(tokens)?))
     } else if word == b"like".as_slice() {
-        like_at(alloc, is_number, &due, tokens)
+        if is_number {
+            return Err(due.fail(WrongKind(FitDue::NumberTest)));
+        }
+        Ok(Test::Like(cells_at(alloc, WrongKind(FitDue::Text), tokens)?))
     } else {
         Err(due.fail(OtherWord(WordDue::Test)))
     }
@@ -262,15 +218,12 @@ fn is_number_at(tag: CallTag, param: u32) -> bool
     }
 }
 
-// A parameter, a test word and a value.
-fn plain_condition_at(
-    alloc: Global,
-    negated: bool,
-    tag: CallTag,
-    tokens: &mut Tokens,
-) -> Result<Cond, LineRefused>
-    ensures { Reads (plain_condition_at negated tag tokens.old) result tokens.new }
+// COND: an optional `not`, a parameter, a test word and a value.
+#[tactic(auto, unfolding(crate::specs::Conditions::condition_at))]
+fn condition_at(alloc: Global, tag: CallTag, tokens: &mut Tokens) -> Result<Cond, LineRefused>
+    ensures { Reads (condition_at tag tokens.old) result tokens.new }
 {
+    let negated = tokens.pass_word(b"not");
     let param = parameter_at(tag, tokens)?;
     let test = test_at(alloc, is_number_at(tag, param), tokens)?;
     Ok(Cond {
@@ -278,15 +231,6 @@ fn plain_condition_at(
         negated,
         test,
     })
-}
-
-// COND: an optional `not` before them.
-#[tactic(auto, unfolding(crate::specs::Conditions::condition_at))]
-fn condition_at(alloc: Global, tag: CallTag, tokens: &mut Tokens) -> Result<Cond, LineRefused>
-    ensures { Reads (condition_at tag tokens.old) result tokens.new }
-{
-    let negated = tokens.pass_word(b"not");
-    plain_condition_at(alloc, negated, tag, tokens)
 }
 
 // COND and COND ..

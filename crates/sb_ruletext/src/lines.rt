@@ -1,9 +1,9 @@
 // Reading the lines below the version line.
 ghost use Rattle.std.specs.Prelude.{◌≡◌};
 ghost use Rattle.sb_base.specs.Refusals.{Gives};
-ghost use Rattle.sb_ruletext.specs.Lines.{is_headed, new_name, name_at, heading, call_at, end_at_when, when_of, rule, grant_at, grant, with_grant, with_rule, first_word_fault, line_of};
+ghost use Rattle.sb_ruletext.specs.Lines.{is_headed, name_at, heading, call_at, end_at_when, when_of, rule, grant_at, grant, first_word_fault, line_of};
 ghost use Rattle.sb_ruletext.specs.declared.faults.PolicyFaultKind.TheVariants.{NoHeading};
-ghost use Rattle.sb_text.specs.Steps.{Reads, Becomes, at_token, unless_fails};
+ghost use Rattle.sb_text.specs.Steps.{Reads, Becomes, unless_fails};
 ghost use Rattle.sb_text.specs.Tokens.{tokens_of};
 
 use crate::conditions::{cells_at, conditions_of};
@@ -18,26 +18,17 @@ use sb_rule::{Action, Conds, Policy, PolicyList, Rule, Rules, is_for_readers};
 use sb_text::{Line, Token, Tokens, WordFault, or_fails};
 use std::alloc::Global;
 
-// NAME: a short name that no policy so far has, or its fault at the token that was due.
-fn new_name(policies: &[Policy], due: &Tokens, word: &[u8]) -> Result<ShortName, LineRefused>
-    ensures { Gives (at_token due.now (new_name policies.now word.now)) result }
-{
-    let Some(name) = ShortName::new(word) else {
-        return Err(due.fail(OtherWord(WordDue::Name)));
-    };
-    if is_any_named(policies, word) {
-        return Err(due.fail(PolicyFaultKind::SameName));
-    }
-    Ok(name)
-}
-
-// The name of a policy.
+// NAME: a short name that no policy so far has.
 fn name_at(policies: &[Policy], tokens: &mut Tokens) -> Result<ShortName, LineRefused>
     ensures { Reads (name_at policies.now tokens.old) result tokens.new }
 {
     let due = tokens.copy();
     let word = word_or(UnknownWord(WordFault::Quoted), tokens)?;
-    new_name(policies, &due, word)
+    let name = or_fails(&due, OtherWord(WordDue::Name), ShortName::new(word))?;
+    if is_any_named(policies, word) {
+        return Err(due.fail(PolicyFaultKind::SameName));
+    }
+    Ok(name)
 }
 
 // `policy NAME`, after its first word.
@@ -139,37 +130,6 @@ fn check_heading(policies: &[Policy], line: &Tokens) -> Result<(), LineRefused>
     }
 }
 
-// Adds the rules of a grant to the last policy.
-fn add_grant(
-    alloc: Global,
-    policies: &mut PolicyList,
-    number: u32,
-    line: &Tokens,
-    tokens: &mut Tokens,
-) -> Result<(), LineRefused>
-    ensures { Becomes (with_grant policies.old number line.now tokens.old) result policies.new }
-{
-    check_heading(policies.as_slice(), line)?;
-    let rules = grant(alloc, number, tokens)?;
-    add_rules(policies, line, rules)
-}
-
-// Adds a rule to the last policy.
-fn add_rule(
-    alloc: Global,
-    policies: &mut PolicyList,
-    number: u32,
-    action: Action,
-    line: &Tokens,
-    tokens: &mut Tokens,
-) -> Result<(), LineRefused>
-    ensures { Becomes (with_rule policies.old number action line.now tokens.old) result policies.new }
-{
-    check_heading(policies.as_slice(), line)?;
-    let rules = rule(alloc, number, action, tokens)?;
-    add_rules(policies, line, rules)
-}
-
 // Why a first word is not known: `readonly` is, in a text of version 2.
 fn first_word_fault(word: &[u8]) -> PolicyFaultKind
     ensures { result ≡ first_word_fault word.now }
@@ -198,10 +158,16 @@ pub(crate) fn line_of(
         return heading(alloc, policies, &first, &mut tokens);
     }
     if word == b"grant".as_slice() {
-        return add_grant(alloc, policies, line.number, &first, &mut tokens);
+        check_heading(policies.as_slice(), &first)?;
+        let rules = grant(alloc, line.number, &mut tokens)?;
+        return add_rules(policies, &first, rules);
     }
     match action_of(version, word) {
-        Some(action) => add_rule(alloc, policies, line.number, action, &first, &mut tokens),
+        Some(action) => {
+            check_heading(policies.as_slice(), &first)?;
+            let rules = rule(alloc, line.number, action, &mut tokens)?;
+            add_rules(policies, &first, rules)
+        }
         None => Err(first.fail(first_word_fault(word))),
     }
 }

@@ -1,17 +1,11 @@
 // What is noted of a pattern on names.
 ghost use Rattle.std.specs.Prelude.{◌≡◌, IfOk};
-ghost use Rattle.sb_ruletext.specs.NoteKinds.{begins_with_prefix, may_begin_name, kind_by, kind_of};
+ghost use Rattle.sb_ruletext.specs.NoteKinds.{begins_with_prefix, may_begin_name, kind_of};
 ghost use Rattle.sb_text.specs.Tokens.{string_of};
 
-use sb_base::NoMemory;
-use sb_text::{ascii_units, string_of};
+use sb_base::{BACKSLASH, NoMemory, QUESTION, STAR};
+use sb_text::string_of;
 use std::alloc::Global;
-
-const STAR: u16 = 42;
-
-const QUESTION: u16 = 63;
-
-const BACKSLASH: u16 = 92;
 
 /// What is noted of a pattern on names.
 #[derive(Clone, Copy)]
@@ -36,48 +30,26 @@ fn may_begin_name(units: &[u16]) -> bool
     matches!(units, [BACKSLASH | STAR | QUESTION, ..])
 }
 
-// What is noted of units that begin with the prefix, and that may begin a name, or not.
-fn kind_by(is_prefixed: bool, may_begin: bool) -> Option<NoteKind>
-    ensures { result ≡ kind_by is_prefixed may_begin }
+// What is noted of the pattern of these units.
+fn kind_of(units: &[u16]) -> Option<NoteKind>
+    ensures { result ≡ kind_of units.now }
 {
-    if is_prefixed {
+    if begins_with_prefix(units) {
         Some(NoteKind::UnescapedPrefix)
-    } else if may_begin {
+    } else if may_begin_name(units) {
         None
     } else {
         Some(NoteKind::MatchesNoName)
     }
 }
 
-// What is noted of the pattern of these units.
-fn kind_of(units: &[u16]) -> Option<NoteKind>
-    ensures { result ≡ kind_of units.now }
-{
-    kind_by(begins_with_prefix(units), may_begin_name(units))
-}
-
-// The same of units below 128, which are bytes.
-fn kind_of_ascii(units: &[u8]) -> Option<NoteKind>
-    ensures { result ≡ kind_of units.now }
-{
-    kind_by(
-        matches!(units, [b'\\', b'?', b'?', b'\\', ..]),
-        matches!(units, [b'\\' | b'*' | b'?', ..]),
-    )
-}
-
-/// What is noted of the pattern between quotes. It allocates for a pattern that is not ASCII.
+/// What is noted of the pattern between quotes.
 ///
 /// # Errors
 /// `NoMemory` if there was none for its units.
 pub(crate) fn kind_of_quoted(alloc: Global, quoted: &str) -> Result<Option<NoteKind>, NoMemory>
     ensures { IfOk result (λ kind. kind ≡ kind_of (string_of quoted.now)) }
 {
-    match ascii_units(quoted) {
-        Some(units) => Ok(kind_of_ascii(units)),
-        None => {
-            let pattern = string_of(alloc, quoted)?;
-            Ok(kind_of(pattern.as_units()))
-        }
-    }
+    let pattern = string_of(alloc, quoted)?;
+    Ok(kind_of(pattern.as_units()))
 }

@@ -1,10 +1,9 @@
 // Printing policies as a text that is read again.
 ghost use Rattle.std.specs.Prelude.{◌≡◌, ◌+◌, ◌++◌, ◌∷◌, [], map, codes, true, length, ◌<◌, ◌^◌, Ok, IfOk, OnOk};
 ghost use Rattle.std.specs.List.{flat_map, list_all, list_any};
-ghost use Rattle.sb_rule.specs.Actions.{action_word};
 ghost use Rattle.sb_call.specs.CallWords.{call_word};
 ghost use Rattle.sb_ruletext.specs.PolicyTexts.{reading};
-ghost use Rattle.sb_ruletext.specs.Printing.{number_word, range_word, or_tokens, numbers_tokens, test_tokens, not_tokens, cond_tokens, joined_tokens, conds_tokens, rule_tokens, heading_tokens, policy_lines, is_read_only, has_read_only, version_word, version_tokens, spaced, printed, relined};
+ghost use Rattle.sb_ruletext.specs.Printing.{number_word, range_word, or_tokens, numbers_tokens, test_tokens, not_tokens, cond_tokens, joined_tokens, conds_tokens, rule_tokens, policy_lines, has_read_only, version_word, spaced, printed, relined};
 ghost use Rattle.sb_text.specs.PlainLines.{line_text};
 ghost use Rattle.sb_text.specs.Tokens.{utf8_of};
 ghost use Rattle.sb_ruletext.specs.Values.{is_test_of_values, is_rule_of_values, is_policy_of_values};
@@ -124,7 +123,7 @@ pub fn put_cond(text: &mut Vec<u8>, tag: CallTag, cond: &Cond) -> Result<(), NoM
     ensures values { OnOk result (is_test_of_values cond.now.test ≡ true) }
 {
     put_not(text, cond.negated)?;
-    put_word(text, parameter_word(tag, cond.param))?;
+    put_word(text, parameter_word(tag, cond.param).as_bytes())?;
     put_test(text, &cond.test)
 }
 
@@ -162,8 +161,8 @@ fn put_rule(text: &mut Vec<u8>, rule: &Rule) -> Result<(), NoMemory>
     ensures text { OnOk result (text.new.items ≡ text.old.items ++ line_text (rule_tokens rule.now)) }
     ensures values { OnOk result (is_rule_of_values rule.now ≡ true) }
 {
-    text.extend_from_slice(rule.action.word())?;
-    put_word(text, call_word(rule.tag))?;
+    text.extend_from_slice(rule.action.word().as_bytes())?;
+    put_word(text, call_word(rule.tag).as_bytes())?;
     put_conds(text, rule.tag, &rule.conds)?;
     text.push(b'\n')?;
     Ok(())
@@ -199,16 +198,11 @@ fn put_policies(text: &mut Vec<u8>, policies: &[Policy]) -> Result<(), NoMemory>
     Ok(())
 }
 
-fn is_read_only(rule: &Rule) -> bool
-    ensures { result ≡ is_read_only rule.now.action }
-{
-    matches!(rule.action, Action::ReadOnly)
-}
-
 fn has_read_only(policy: &Policy) -> bool
     ensures { result ≡ has_read_only policy.now }
 {
-    policy.rules.iter().any(is_read_only)
+    let mut rules = policy.rules.iter();
+    rules.any(|rule| matches!(rule.action, Action::ReadOnly))
 }
 
 fn have_read_only(policies: &[Policy]) -> bool

@@ -30,7 +30,7 @@ pub(crate) fn action_of(version: u32, word: &[u8]) -> Option<Action>
     ensures { result ≡ action_of version word.now }
 {
     for action in actions_of(version) {
-        if word == action.word() {
+        if word == action.word().as_bytes() {
             return Some(*action);
         }
     }
@@ -38,14 +38,14 @@ pub(crate) fn action_of(version: u32, word: &[u8]) -> Option<Action>
 }
 
 // The place of a word among words.
-fn place_of(names: &[&[u8]], word: &[u8]) -> Option<u32>
+fn place_of(names: &[&str], word: &[u8]) -> Option<u32>
     requires few { length names.now ≤ 6 }
     ensures value { result ≡ place_of (map (λ name. name.now) names.now) word.now }
     ensures within { IfSome result (λ place. place < length names.now) }
 {
     let mut place = 0;
     for name in names {
-        if word == *name {
+        if word == name.as_bytes() {
             return Some(place);
         }
         place += 1;

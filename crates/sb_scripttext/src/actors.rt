@@ -1,7 +1,7 @@
 // The names of actors.
 ghost use Rattle.std.specs.Prelude.{◌≡◌, ◌≤◌, length};
 ghost use Rattle.std.specs.List.{position_or_len, before_first, after_first};
-ghost use Rattle.sb_scripttext.specs.Actors.{is_dot, number_32, worker_at, thread_named, actor_named, actor_of};
+ghost use Rattle.sb_scripttext.specs.Actors.{is_dot, number_32, thread_named, actor_named, actor_of};
 
 use sb_statements::{Actor, Script, is_there};
 use sb_text::decimal_of;
@@ -42,14 +42,6 @@ fn before_dot(word: &[u8]) -> &[u8]
     &word[..dot_at(word)]
 }
 
-// `T` names the worker of target T.
-fn worker_named(word: &[u8]) -> Option<Actor>
-    ensures { result ≡ worker_at (number_32 word.now) }
-{
-    let target = number_32(word)?;
-    Some(Actor::Worker { target })
-}
-
 // `T.K` names thread K of target T.
 fn thread_named(word: &[u8]) -> Option<Actor>
     ensures { result ≡ thread_named word.now }
@@ -64,7 +56,10 @@ fn actor_named(word: &[u8]) -> Option<Actor>
     ensures { result ≡ actor_named word.now }
 {
     match word {
-        [b'b', digits @ ..] => worker_named(digits),
+        [b'b', digits @ ..] => {
+            let target = number_32(digits)?;
+            Some(Actor::Worker { target })
+        }
         [b't', numbers @ ..] => thread_named(numbers),
         _ => None,
     }

@@ -1,12 +1,10 @@
 // `call CALL ARG ..`: a call with its arguments.
-ghost use Rattle.std.specs.Prelude.{◌≡◌, true};
-ghost use Rattle.sb_call.specs.Arguments.{fits};
-ghost use Rattle.sb_scripttext.specs.Arguments.{tag_at, arg_at, args_at, fitting, call};
+ghost use Rattle.sb_scripttext.specs.Arguments.{tag_at, arg_at, args_at, call};
 ghost use Rattle.sb_base.specs.Refusals.{Gives};
 ghost use Rattle.sb_text.specs.Steps.{Reads};
 
 use crate::faults::ScriptKind::{TooBig, UnknownCall, UnknownWord, WrongArgs};
-use crate::faults::{KindRefused, LineRefused, ScriptKind};
+use crate::faults::{LineRefused, ScriptKind};
 use crate::steps::{BROKEN, name_at, number_at, number_within, string_at};
 use sb_block::has_small_block;
 use sb_call::{Arg, Args, CallTag, ParamKind, shape, tag_of_word};
@@ -64,18 +62,6 @@ fn args_at(alloc: Global, kinds: &[ParamKind], tokens: &mut Tokens) -> Result<Ar
     Ok(args)
 }
 
-// The statement of a call whose arguments fit it, if its block has at most 64 words.
-fn fitting(tag: CallTag, args: Args) -> Result<Statement, KindRefused>
-    requires { fits tag args ≡ true }
-    ensures { Gives (fitting tag args) result }
-{
-    if has_small_block(tag, args.as_slice()) {
-        Ok(Statement::Call { tag, args })
-    } else {
-        Err(KindRefused::Fault(TooBig))
-    }
-}
-
 /// `call CALL ARG ..`, after its first word.
 #[tactic(auto, unfolding(crate::specs::Arguments::call))]
 pub(crate) fn call(
@@ -88,8 +74,9 @@ pub(crate) fn call(
     let tag = tag_at(tokens)?;
     let args = args_at(alloc, shape(tag), tokens)?;
     end_at(WrongArgs(WordFault::Extra), BROKEN, tokens)?;
-    match fitting(tag, args) {
-        Ok(statement) => Ok(statement),
-        Err(refused) => Err(line.refuse(refused)),
+    if has_small_block(tag, args.as_slice()) {
+        Ok(Statement::Call { tag, args })
+    } else {
+        Err(line.fail(TooBig))
     }
 }

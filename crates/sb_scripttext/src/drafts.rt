@@ -1,10 +1,10 @@
 // What is so far there of a script, as the reader keeps it.
-ghost use Rattle.std.specs.Prelude.{◌≡◌, ◌++◌, ◌∷◌, [], true, is_some, OnOk};
+ghost use Rattle.std.specs.Prelude.{◌≡◌, ◌++◌, [], true, OnOk};
 ghost use Rattle.std.specs.List.{list_any};
 ghost use Rattle.sb_kernel.specs.Openings.{is_named, opening};
 ghost use Rattle.sb_scripttext.specs.Lines.{is_target_named};
 ghost use Rattle.sb_scripttext.specs.ScriptTexts.{script_of};
-ghost use Rattle.sb_scripttext.specs.Drafts.{nothing, is_opening, is_in_thread, with_patience, with_start, with_target, one_thread_more, with_thread, one_statement_more, in_last_thread, named_by, with_statement};
+ghost use Rattle.sb_scripttext.specs.Drafts.{nothing, is_opening, is_in_thread, with_start, with_target, one_thread_more, with_thread, one_statement_more, in_last_thread, named_by, with_statement};
 ghost use Rattle.sb_text.specs.Steps.{Becomes};
 
 use crate::faults::{KindRefused, ScriptKind, ScriptLimit};
@@ -13,7 +13,7 @@ use sb_base::{Items, NoMemory};
 use sb_kernel::Kernel;
 use sb_statements::{
     MAX_START_LINES, MAX_STATEMENTS, MAX_TARGETS, MAX_THREADS, Script, StartLine, Statement,
-    Statements, TargetScript, Targets, Word,
+    Statements, TargetScript, Targets,
 };
 use sb_text::WordFault;
 use std::alloc::Global;
@@ -46,21 +46,6 @@ pub(crate) struct Named {
 /// What statements name, in the order of their lines.
 pub(crate) type NamedWords = Items<Named>;
 
-fn add_word(
-    named: &mut NamedWords,
-    at: StatementAt,
-    target: u32,
-    word: Word,
-) -> Result<(), NoMemory>
-    ensures { OnOk result (named.new ≡ named.old ++ record { at = at; target = target; channel = word.channel } ∷ []) }
-{
-    named.push(Named {
-        at,
-        target,
-        channel: word.channel,
-    })
-}
-
 // With what a statement names.
 fn add_named(named: &mut NamedWords, at: StatementAt, statement: &Statement) -> Result<(), NoMemory>
     ensures { OnOk result (named.new ≡ named.old ++ named_by at statement.now) }
@@ -70,14 +55,12 @@ fn add_named(named: &mut NamedWords, at: StatementAt, statement: &Statement) -> 
         Statement::Load { target, word }
         | Statement::Store { target, word, .. }
         | Statement::Exchange { target, word, .. }
-        | Statement::Wait { target, word, .. } => add_word(named, at, *target, *word),
+        | Statement::Wait { target, word, .. } => named.push(Named {
+            at,
+            target: *target,
+            channel: word.channel,
+        }),
     }
-}
-
-fn is_any_named(targets: &[TargetScript], name: &[u8]) -> bool
-    ensures { result ≡ list_any (is_target_named name.now) targets.now }
-{
-    targets.iter().any(|target| target.name.bytes() == name)
 }
 
 // One more thread of a target.
@@ -117,7 +100,8 @@ fn add_to_last_thread(target: &mut TargetScript, statement: Statement) -> Result
 /// What is so far there of a script. The last target is open for threads, and its last thread for statements.
 #[derive(Drop)]
 pub(crate) struct Draft {
-    patience: Option<u32>,
+    /// The patience, if a line told it.
+    pub(crate) patience: Option<u32>,
     start: Placed,
     targets: Targets,
     named: NamedWords,
@@ -136,21 +120,11 @@ impl Draft {
         }
     }
 
-    /// Whether a line told the patience.
-    pub(crate) fn has_patience(&self) -> bool
-        ensures { result ≡ is_some self.now.patience }
-    {
-        self.patience.is_some()
-    }
-
     /// Whether there is no target.
     pub(crate) fn is_opening(&self) -> bool
         ensures { result ≡ is_opening self.now }
     {
-        match self.targets.as_slice() {
-            [] => true,
-            _ => false,
-        }
+        matches!(self.targets.as_slice(), [])
     }
 
     /// Whether the last target has a thread.
@@ -168,14 +142,8 @@ impl Draft {
     pub(crate) fn is_named(&self, name: &[u8]) -> bool
         ensures { result ≡ list_any (is_target_named name.now) self.now.targets }
     {
-        is_any_named(self.targets.as_slice(), name)
-    }
-
-    /// With this patience.
-    pub(crate) fn add_patience(&mut self, patience: u32)
-        ensures { self.new ≡ with_patience self.old patience }
-    {
-        self.patience = Some(patience);
+        let targets = self.targets.as_slice();
+        targets.iter().any(|target| target.name.bytes() == name)
     }
 
     /// One more opening line. After an error the draft is unspecified.

@@ -1,9 +1,9 @@
 // Reading the lines below the first.
 ghost use Rattle.std.specs.Prelude.{◌≡◌};
-ghost use Rattle.std.specs.List.{list_any, position};
+ghost use Rattle.std.specs.List.{position};
 ghost use Rattle.sb_rule.specs.WellMade.{is_named};
 ghost use Rattle.sb_scripttext.specs.Arguments.{call};
-ghost use Rattle.sb_scripttext.specs.Lines.{patience, new_name, new_name_at, policy_number, policy_at, heading, set_patience, add_target, add_thread, is_opening_word, is_statement_word, is_line_word, first_word_fault, refused_start, start_line, statement_line, plain_line, line_of};
+ghost use Rattle.sb_scripttext.specs.Lines.{new_name_at, policy_number, policy_at, set_patience, add_target, add_thread, is_line_word, first_word_fault, refused_start, start_line, statement_line, plain_line, line_of};
 ghost use Rattle.sb_scripttext.specs.Drafts.{statement_at};
 ghost use Rattle.sb_scripttext.specs.Openings.{dir, file, key, event};
 ghost use Rattle.sb_scripttext.specs.Statements.{store, exchange, load, wait};
@@ -11,13 +11,13 @@ ghost use Rattle.sb_base.specs.Refusals.{Gives};
 ghost use Rattle.sb_text.specs.Steps.{Reads, Becomes};
 ghost use Rattle.sb_text.specs.Tokens.{tokens_of};
 
-use crate::arguments::{MAX_32, call};
+use crate::arguments::call;
 use crate::drafts::{Draft, StatementAt};
 use crate::faults::ScriptKind::{BadNumber, BadStart, NoSuchPolicy, SameName, UnknownWord};
 use crate::faults::{KindRefused, LineRefused, ScriptKind};
 use crate::openings::{dir, event, file, key};
 use crate::statements::{exchange, load, store, wait};
-use crate::steps::{BROKEN, at_line_end, number_within};
+use crate::steps::{BROKEN, at_token, number_within};
 use sb_call::ShortName;
 use sb_rule::Policy;
 use sb_statements::{MAX_CHANNELS, MAX_PATIENCE, StartLine, Statement, TargetScript, Threads};
@@ -33,63 +33,34 @@ const EXTRA: ScriptKind = UnknownWord(WordFault::Extra);
 
 const MISPLACED: ScriptKind = UnknownWord(WordFault::Misplaced);
 
-// `patience N`, after its first word.
-#[tactic(auto, unfolding(crate::specs::Lines::patience))]
-fn patience(tokens: &mut Tokens) -> Result<u32, LineRefused>
-    ensures { Gives (patience tokens.old) result }
-{
-    let patience = number_within(1, u64::from(MAX_PATIENCE), BadNumber, MISSING, tokens)?;
-    at_line_end(EXTRA, patience as u32, tokens)
-}
-
-// NAME as a word: a short name that no target so far has.
-fn new_name(draft: &Draft, word: &[u8]) -> Result<ShortName, KindRefused>
-    ensures { Gives (new_name draft.now.targets word.now) result }
-{
-    let Some(name) = ShortName::new(word) else {
-        return Err(KindRefused::Fault(UnknownWord(WordFault::Unknown)));
-    };
-    if draft.is_named(word) {
-        return Err(KindRefused::Fault(SameName));
-    }
-    Ok(name)
-}
-
-// NAME: the name of a target.
+// NAME: a short name that no target so far has.
 #[tactic(auto, unfolding(crate::specs::Lines::new_name_at))]
 fn new_name_at(draft: &Draft, tokens: &mut Tokens) -> Result<ShortName, LineRefused>
     ensures { Reads (new_name_at draft.now.targets tokens.old) result tokens.new }
 {
     let due = tokens.copy();
     let word = word_at(QUOTED, BROKEN, MISSING, tokens)?;
-    match new_name(draft, word) {
-        Ok(name) => Ok(name),
-        Err(refused) => Err(due.refuse(refused)),
+    let name = or_fails(&due, UnknownWord(WordFault::Unknown), ShortName::new(word))?;
+    if draft.is_named(word) {
+        return Err(due.fail(SameName));
     }
-}
-
-fn is_named(name: &[u8], policy: &Policy) -> bool
-    ensures { result ≡ is_named name.now policy.now }
-{
-    policy.name.bytes() == name
+    Ok(name)
 }
 
 // The place of the first policy of this name, from 0.
 fn policy_place(name: &[u8], policies: &[Policy]) -> Option<usize>
     ensures { result ≡ position (is_named name.now) policies.now }
 {
-    policies.iter().position(|policy| is_named(name, policy))
+    policies
+        .iter()
+        .position(|policy| policy.name.bytes() == name)
 }
 
 // The number of the policy at this place.
-fn policy_number(place: usize) -> Result<u32, KindRefused>
-    ensures { Gives (policy_number place) result }
+fn policy_number(place: usize) -> Result<u32, ScriptKind>
+    ensures { result ≡ policy_number place }
 {
-    if place as u64 <= MAX_32 {
-        Ok(place as u32)
-    } else {
-        Err(KindRefused::Fault(NoSuchPolicy))
-    }
+    u32::try_from(place).ok().ok_or(NoSuchPolicy)
 }
 
 // POLICY: the number of the policy of this name.
@@ -100,52 +71,28 @@ fn policy_at(policies: &[Policy], tokens: &mut Tokens) -> Result<u32, LineRefuse
     let due = tokens.copy();
     let word = word_at(NoSuchPolicy, BROKEN, MISSING, tokens)?;
     let place = or_fails(&due, NoSuchPolicy, policy_place(word, policies))?;
-    match policy_number(place) {
-        Ok(policy) => Ok(policy),
-        Err(refused) => Err(due.refuse(refused)),
-    }
+    at_token(&due, policy_number(place))
 }
 
-// `target NAME POLICY CHANNELS`, after its first word.
-#[tactic(auto, unfolding(crate::specs::Lines::heading))]
-fn heading(
-    alloc: Global,
-    policies: &[Policy],
-    draft: &Draft,
-    tokens: &mut Tokens,
-) -> Result<TargetScript, LineRefused>
-    ensures { Gives (heading policies.now draft.now.targets tokens.old) result }
-{
-    let name = new_name_at(draft, tokens)?;
-    let policy = policy_at(policies, tokens)?;
-    let channels = number_within(1, u64::from(MAX_CHANNELS), BadNumber, MISSING, tokens)?;
-    end_at(EXTRA, BROKEN, tokens)?;
-    Ok(TargetScript {
-        name,
-        policy,
-        channels: channels as u32,
-        threads: Threads::empty(alloc),
-    })
-}
-
-// A `patience` line, before the first target and once.
-#[tactic(auto, unfolding(crate::specs::Lines::set_patience))]
+// `patience N`, after its first word: before the first target and once.
+#[tactic(auto, unfolding(crate::specs::Lines::set_patience, crate::specs::Lines::patience))]
 fn set_patience(draft: &mut Draft, line: &Tokens, tokens: &mut Tokens) -> Result<(), LineRefused>
     ensures { Becomes (set_patience draft.old line.now tokens.old) result draft.new }
 {
-    if draft.has_patience() {
+    if draft.patience.is_some() {
         return Err(line.fail(UnknownWord(WordFault::Repeated)));
     }
     if !draft.is_opening() {
         return Err(line.fail(MISPLACED));
     }
-    let patience = patience(tokens)?;
-    draft.add_patience(patience);
+    let patience = number_within(1, u64::from(MAX_PATIENCE), BadNumber, MISSING, tokens)?;
+    end_at(EXTRA, BROKEN, tokens)?;
+    draft.patience = Some(patience as u32);
     Ok(())
 }
 
-// A `target` line.
-#[tactic(auto, unfolding(crate::specs::Lines::add_target))]
+// `target NAME POLICY CHANNELS`, after its first word.
+#[tactic(auto, unfolding(crate::specs::Lines::add_target, crate::specs::Lines::heading))]
 fn add_target(
     alloc: Global,
     policies: &[Policy],
@@ -155,7 +102,16 @@ fn add_target(
 ) -> Result<(), LineRefused>
     ensures { Becomes (add_target policies.now draft.old line.now tokens.old) result draft.new }
 {
-    let target = heading(alloc, policies, draft, tokens)?;
+    let name = new_name_at(draft, tokens)?;
+    let policy = policy_at(policies, tokens)?;
+    let channels = number_within(1, u64::from(MAX_CHANNELS), BadNumber, MISSING, tokens)?;
+    end_at(EXTRA, BROKEN, tokens)?;
+    let target = TargetScript {
+        name,
+        policy,
+        channels: channels as u32,
+        threads: Threads::empty(alloc),
+    };
     match draft.add_target(target) {
         Ok(()) => Ok(()),
         Err(refused) => Err(line.refuse(refused)),
@@ -182,32 +138,19 @@ fn add_thread(
     }
 }
 
-// Whether the word begins an opening line.
-fn is_opening_word(word: &[u8]) -> bool
-    ensures { result ≡ is_opening_word word.now }
+// Whether the word begins a line that is allowed elsewhere in a script.
+fn is_line_word(word: &[u8]) -> bool
+    ensures { result ≡ is_line_word word.now }
 {
     word == b"dir".as_slice()
         || word == b"file".as_slice()
         || word == b"key".as_slice()
         || word == b"event".as_slice()
-}
-
-// Whether the word begins a statement.
-fn is_statement_word(word: &[u8]) -> bool
-    ensures { result ≡ is_statement_word word.now }
-{
-    word == b"call".as_slice()
+        || word == b"call".as_slice()
         || word == b"store".as_slice()
         || word == b"exchange".as_slice()
         || word == b"load".as_slice()
         || word == b"wait".as_slice()
-}
-
-// Whether the word begins a line that is allowed elsewhere in a script.
-fn is_line_word(word: &[u8]) -> bool
-    ensures { result ≡ is_line_word word.now }
-{
-    is_opening_word(word) || is_statement_word(word)
 }
 
 // Why a line that begins with this word is out of place.

@@ -1,5 +1,4 @@
 // Opening lines: what is there at the start.
-ghost use Rattle.std.specs.Prelude.{◌≡◌};
 ghost use Rattle.sb_scripttext.specs.Openings.{dir, file, key, event};
 ghost use Rattle.sb_base.specs.Refusals.{Gives};
 

@@ -1,12 +1,12 @@
 // Reading script texts.
-ghost use Rattle.std.specs.Prelude.{◌≡◌, ◌+◌, ◌<◌, ◌≤◌, ◌^◌, drop, length, IfOk};
+ghost use Rattle.std.specs.Prelude.{◌≡◌, ◌+◌, ◌<◌, ◌^◌, length, IfOk};
 ghost use Rattle.sb_kernel.specs.Openings.{opening};
 ghost use Rattle.sb_scripttext.specs.Drafts.{nothing};
-ghost use Rattle.sb_scripttext.specs.ScriptTexts.{grammar, absence, first_number, from_place, with_number, absence_on, first_absence, finished, reading};
+ghost use Rattle.sb_scripttext.specs.ScriptTexts.{grammar, absence, first_number, with_number, absence_on, first_absence, finished, reading};
 ghost use Rattle.sb_text.specs.MissingTexts.{line_or_empty};
 ghost use Rattle.sb_scripttext.specs.declared.faults.ScriptKind.TheVariants.{UnknownWord};
 ghost use Rattle.sb_base.specs.Refusals.{GivesAs};
-ghost use Rattle.sb_text.specs.Tokens.{by_tokens, words_of};
+ghost use Rattle.sb_text.specs.Tokens.{by_tokens};
 ghost use Rattle.sb_text.specs.declared.refusals.WordFault.TheVariants.{NoVersion};
 
 use crate::drafts::{Draft, Named};
@@ -93,13 +93,6 @@ fn absence(targets: &[TargetScript], named: &Named) -> Option<TokenFault<ScriptK
     }
 }
 
-// What is on a line from a place on.
-fn from_place(line: &[u8], place: usize) -> &[u8]
-    ensures { result.now ≡ from_place line.now place }
-{
-    &line[line.len().saturating_sub(place)..]
-}
-
 // The number that the first of these words is, or this one if it is none.
 fn first_number(words: &Words, other: u64) -> u64
     ensures { result ≡ first_number words.now other }
@@ -138,10 +131,11 @@ fn absence_at(text: &[u8], number: u32, fault: TokenFault<ScriptKind>) -> Script
     ensures { result ≡ absence_on number fault (line_or_empty number text.now) }
 {
     let line = line_or_empty(number, text);
+    let rest = &line[line.len().saturating_sub(fault.place)..];
     ScriptFault {
         line: number,
         column: column_at(Layout::Text, line, fault.place),
-        kind: with_number(&Words::new(from_place(line, fault.place)), fault.kind),
+        kind: with_number(&Words::new(rest), fault.kind),
     }
 }
 

@@ -2,7 +2,7 @@
 ghost use Rattle.std.specs.Prelude.{◌≡◌};
 ghost use Rattle.std.specs.List.{list_any};
 ghost use Rattle.sb_kernel.specs.Openings.{name_of};
-ghost use Rattle.sb_scripttext.specs.StartFaults.{is_of_files, is_of_keys, is_of_events, is_object, start_fault};
+ghost use Rattle.sb_scripttext.specs.StartFaults.{is_object, start_fault};
 
 use crate::faults::StartFault;
 use sb_base::eq_ignore_ascii_case;
@@ -21,46 +21,20 @@ fn name_of(line: &StartLine) -> &[u16]
     }
 }
 
-// Whether a line is that of a file or directory, and its name is this.
-fn is_of_files(name: &[u16], line: &StartLine) -> bool
-    ensures { result ≡ is_of_files name.now line.now }
-{
-    match line {
-        StartLine::Dir { name: other } | StartLine::File { name: other, .. } => {
-            eq_ignore_ascii_case(name, other.as_units())
-        }
-        StartLine::Key { .. } | StartLine::Event { .. } => false,
-    }
-}
-
-// Whether it is that of a key.
-fn is_of_keys(name: &[u16], line: &StartLine) -> bool
-    ensures { result ≡ is_of_keys name.now line.now }
-{
-    match line {
-        StartLine::Key { name: other } => eq_ignore_ascii_case(name, other.as_units()),
-        StartLine::Dir { .. } | StartLine::File { .. } | StartLine::Event { .. } => false,
-    }
-}
-
-// Whether it is that of an event.
-fn is_of_events(name: &[u16], line: &StartLine) -> bool
-    ensures { result ≡ is_of_events name.now line.now }
-{
-    match line {
-        StartLine::Event { name: other, .. } => eq_ignore_ascii_case(name, other.as_units()),
-        StartLine::Dir { .. } | StartLine::File { .. } | StartLine::Key { .. } => false,
-    }
-}
-
 // Whether another line is of the same service as a line, and its object has this name.
 fn is_object(line: &StartLine, name: &[u16], other: &StartLine) -> bool
     ensures { result ≡ is_object line.now name.now other.now }
 {
-    match line {
-        StartLine::Dir { .. } | StartLine::File { .. } => is_of_files(name, other),
-        StartLine::Key { .. } => is_of_keys(name, other),
-        StartLine::Event { .. } => is_of_events(name, other),
+    match (line, other) {
+        (
+            StartLine::Dir { .. } | StartLine::File { .. },
+            StartLine::Dir { name: own } | StartLine::File { name: own, .. },
+        )
+        | (StartLine::Key { .. }, StartLine::Key { name: own })
+        | (StartLine::Event { .. }, StartLine::Event { name: own, .. }) => {
+            eq_ignore_ascii_case(name, own.as_units())
+        }
+        _ => false,
     }
 }
 

@@ -1,13 +1,12 @@
 // `store`, `exchange`, `load` and `wait`: words of channels that are stored and loaded directly.
 ghost use Rattle.std.specs.Prelude.{◌≡◌};
-ghost use Rattle.sb_scripttext.specs.Statements.{short, value_at, short_at, block_place, place_of, place_at, target_word_at, store, exchange, load, wait};
+ghost use Rattle.sb_scripttext.specs.Statements.{short, value_at, short_at, place_of, place_at, target_word_at, store, exchange, load, wait};
 ghost use Rattle.sb_base.specs.Refusals.{Gives};
 ghost use Rattle.sb_text.specs.Steps.{Reads};
 
-use crate::arguments::MAX_32;
 use crate::faults::ScriptKind::{BadNumber, NoSuchWord, WrongArgs};
-use crate::faults::{KindRefused, LineRefused, ScriptKind};
-use crate::steps::{BROKEN, at_line_end, number_at, within};
+use crate::faults::{LineRefused, ScriptKind};
+use crate::steps::{BROKEN, at_line_end, at_token, number_at, within};
 use sb_statements::{MAX_PATIENCE, Statement, Word};
 use sb_text::{Tokens, WordFault, end_at, number_of, word_due};
 
@@ -22,11 +21,7 @@ const EXTRA: ScriptKind = WrongArgs(WordFault::Extra);
 fn short(number: u64) -> u32
     ensures { result ≡ short number }
 {
-    if number <= MAX_32 {
-        number as u32
-    } else {
-        0xFFFF_FFFF
-    }
+    u32::try_from(number).unwrap_or(u32::MAX)
 }
 
 // V: a value.
@@ -44,27 +39,18 @@ fn short_at(tokens: &mut Tokens) -> Result<u32, LineRefused>
     Ok(short(value_at(tokens)?))
 }
 
-// The place of a block word in its channel.
-fn block_place(word: u64) -> Result<u32, KindRefused>
-    ensures { Gives (block_place word) result }
-{
-    if word <= LAST_BLOCK_WORD {
-        Ok(1 + word as u32)
-    } else {
-        Err(KindRefused::Fault(NoSuchWord))
-    }
-}
-
-// W as a word.
-fn place_of(word: &[u8]) -> Result<u32, KindRefused>
-    ensures { Gives (place_of word.now) result }
+// W as a word: its place in the channel.
+fn place_of(word: &[u8]) -> Result<u32, ScriptKind>
+    ensures { result ≡ place_of word.now }
 {
     if word == b"state".as_slice() {
         return Ok(0);
     }
-    match number_of(word) {
-        Some(number) => block_place(number),
-        None => Err(KindRefused::Fault(BadNumber)),
+    let number = number_of(word).ok_or(BadNumber)?;
+    if number <= LAST_BLOCK_WORD {
+        Ok(1 + number as u32)
+    } else {
+        Err(NoSuchWord)
     }
 }
 
@@ -73,13 +59,10 @@ fn place_of(word: &[u8]) -> Result<u32, KindRefused>
 fn place_at(tokens: &mut Tokens) -> Result<u32, LineRefused>
     ensures { Reads (place_at tokens.old) result tokens.new }
 {
-    match place_of(word_due(BadNumber, BROKEN, MISSING, tokens)?) {
-        Ok(place) => {
-            tokens.pass();
-            Ok(place)
-        }
-        Err(refused) => Err(tokens.refuse(refused)),
-    }
+    let word = word_due(BadNumber, BROKEN, MISSING, tokens)?;
+    let place = at_token(tokens, place_of(word))?;
+    tokens.pass();
+    Ok(place)
 }
 
 // T C W: a target, and a word of one of its channels.
@@ -144,13 +127,11 @@ pub(crate) fn wait(tokens: &mut Tokens) -> Result<Statement, LineRefused>
     let due = tokens.copy();
     let loads = value_at(tokens)?;
     end_at(EXTRA, BROKEN, tokens)?;
-    match within(1, u64::from(MAX_PATIENCE), loads) {
-        Ok(most) => Ok(Statement::Wait {
-            target,
-            word,
-            value,
-            most: most as u32,
-        }),
-        Err(refused) => Err(due.refuse(refused)),
-    }
+    let most = at_token(&due, within(1, u64::from(MAX_PATIENCE), loads))?;
+    Ok(Statement::Wait {
+        target,
+        word,
+        value,
+        most: most as u32,
+    })
 }

@@ -1,33 +1,32 @@
 // Reading a line from left to right: numbers, strings and names.
-ghost use Rattle.std.specs.Prelude.{◌≡◌, ◌≤◌, Ok, IfOk, IfSome};
-ghost use Rattle.sb_scripttext.specs.Steps.{number_at, within, number_within, string_at, name, name_at, at_line_end};
+ghost use Rattle.std.specs.Prelude.{◌≡◌, ◌≤◌, Ok, IfOk};
+ghost use Rattle.sb_scripttext.specs.Steps.{number_at, within, number_within, string_at, name_at, at_line_end};
 ghost use Rattle.sb_base.specs.Refusals.{Gives};
-ghost use Rattle.sb_text.specs.Steps.{later, Reads};
+ghost use Rattle.sb_text.specs.Steps.{at_token, later, Reads};
 
-use crate::faults::{KindRefused, LineRefused, ScriptKind};
+use crate::faults::{LineRefused, ScriptKind};
 use sb_base::{Wide, is_name};
-use sb_text::{
-    Token, Tokens, WordFault, end_at, number_of, or_fails, quoted_due, string_of, word_due,
-};
+use sb_text::{Tokens, WordFault, end_at, number_of, or_fails, quoted_due, string_of, word_due};
 use std::alloc::Global;
 
 /// The fault of a token that breaks the rules.
 pub(crate) const BROKEN: ScriptKind = ScriptKind::UnknownWord(WordFault::Broken);
 
-// The number at hand, which is not passed, if there is one: most are read here, without a fault to hand on.
-#[inline(always)]
-#[tactic(auto, unfolding(crate::specs::Steps::number_at))]
-fn number_at_hand(tokens: &Tokens) -> Option<u64>
-    ensures { IfSome result (λ n. (quoted missing : ScriptKind) → number_at quoted missing tokens.now ≡ Ok (n, later tokens.now)) }
+/// A value, or its fault at the token that was due.
+pub(crate) fn at_token<A: Drop>(
+    due: &Tokens,
+    value: Result<A, ScriptKind>,
+) -> Result<A, LineRefused>
+    ensures read { Gives (at_token due.now value) result }
+    ensures same { IfOk result (λ x. value ≡ Ok x) }
 {
-    match tokens.peek() {
-        Some(Token::Word(word)) => number_of(word),
-        Some(Token::Quoted(_)) | Some(Token::Bad) | None => None,
+    match value {
+        Ok(value) => Ok(value),
+        Err(kind) => Err(due.fail(kind)),
     }
 }
 
 // N: the number at hand, which is not passed, with the faults of `number_at`.
-#[inline(always)]
 #[tactic(auto, unfolding(crate::specs::Steps::number_at))]
 fn number_due(quoted: ScriptKind, missing: ScriptKind, tokens: &Tokens) -> Result<u64, LineRefused>
     ensures { Reads (number_at quoted missing tokens.now) result (later tokens.now) }
@@ -37,7 +36,6 @@ fn number_due(quoted: ScriptKind, missing: ScriptKind, tokens: &Tokens) -> Resul
 }
 
 /// N: a number. `quoted` is the fault of a quoted token in its place, `missing` that of none.
-#[inline(always)]
 pub(crate) fn number_at(
     quoted: ScriptKind,
     missing: ScriptKind,
@@ -45,29 +43,24 @@ pub(crate) fn number_at(
 ) -> Result<u64, LineRefused>
     ensures { Reads (number_at quoted missing tokens.old) result tokens.new }
 {
-    if let Some(number) = number_at_hand(tokens) {
-        tokens.pass();
-        return Ok(number);
-    }
     let number = number_due(quoted, missing, tokens)?;
     tokens.pass();
     Ok(number)
 }
 
 /// A number from `lo` to `hi`.
-pub(crate) fn within(lo: u64, hi: u64, number: u64) -> Result<u64, KindRefused>
-    ensures number { Gives (within lo hi number) result }
+pub(crate) fn within(lo: u64, hi: u64, number: u64) -> Result<u64, ScriptKind>
+    ensures number { result ≡ within lo hi number }
     ensures most { IfOk result (λ n. n ≤ hi) }
 {
     if lo <= number && number <= hi {
         Ok(number)
     } else {
-        Err(KindRefused::Fault(ScriptKind::OutOfRange { low: lo, high: hi }))
+        Err(ScriptKind::OutOfRange { low: lo, high: hi })
     }
 }
 
 /// N: a number from `lo` to `hi`, with the faults of `number_at`.
-#[inline(always)]
 #[tactic(auto, unfolding(crate::specs::Steps::number_within))]
 pub(crate) fn number_within(
     lo: u64,
@@ -79,21 +72,13 @@ pub(crate) fn number_within(
     ensures read { Reads (number_within lo hi quoted missing tokens.old) result tokens.new }
     ensures most { IfOk result (λ n. n ≤ hi) }
 {
-    let number = match number_at_hand(tokens) {
-        Some(number) => number,
-        None => number_due(quoted, missing, tokens)?,
-    };
-    match within(lo, hi, number) {
-        Ok(number) => {
-            tokens.pass();
-            Ok(number)
-        }
-        Err(refused) => Err(tokens.refuse(refused)),
-    }
+    let number = number_due(quoted, missing, tokens)?;
+    let number = at_token(tokens, within(lo, hi, number))?;
+    tokens.pass();
+    Ok(number)
 }
 
 // "S": the string at hand, which is not passed, with the faults of `string_at`.
-#[inline(always)]
 #[tactic(auto, unfolding(crate::specs::Steps::string_at))]
 fn string_due(
     alloc: Global,
@@ -108,7 +93,6 @@ fn string_due(
 }
 
 /// "S": a string. `unquoted` is the fault of a word in its place, `missing` that of none.
-#[inline(always)]
 pub(crate) fn string_at(
     alloc: Global,
     unquoted: ScriptKind,
@@ -123,7 +107,6 @@ pub(crate) fn string_at(
 }
 
 /// "NAME": a name, with the faults of `string_at`.
-#[inline(always)]
 #[tactic(auto, unfolding(crate::specs::Steps::name_at))]
 pub(crate) fn name_at(
     alloc: Global,
@@ -143,7 +126,6 @@ pub(crate) fn name_at(
 }
 
 /// A value, if the line ends here. `extra` is the fault of an extra token.
-#[inline(always)]
 pub(crate) fn at_line_end<A: Drop>(
     extra: ScriptKind,
     value: A,

@@ -1,5 +1,5 @@
 -- Each handle is granted on the event of the name.
-use Rattle.std.proofs.Common.{◌≡◌, ◌+◌, ℕ, Bool, true, false, refl, ◌∙◌, ap, [], ◌∷◌, ◌==◌, if◌then◌else◌}
+use Rattle.std.proofs.Common.{◌≡◌, ◌+◌, Bool, true, false, refl, ◌∙◌, ap, ◌==◌, if◌then◌else◌}
 use Rattle.std.proofs.lemmas.Bool.{false≢true}
 use Rattle.std.specs.Prelude.{Option, None, Some, not}
 use Rattle.sb_call.specs.Statuses.{name_exists, type_mismatch}

@@ -1,5 +1,5 @@
 -- Each handle is granted on the key of the name.
-use Rattle.std.proofs.Common.{◌≡◌, ◌+◌, ℕ, Bool, true, false, refl, ◌∙◌, ap, arith, [], ◌∷◌, if◌then◌else◌}
+use Rattle.std.proofs.Common.{◌≡◌, ◌+◌, ℕ, Bool, true, false, refl, ◌∙◌, ap, arith, if◌then◌else◌}
 use Rattle.std.specs.Prelude.{Option, None, Some, not}
 use Rattle.sb_call.specs.Statuses.{path_not_found, success}
 use Rattle.sb_handles.specs.Effects.{Effect, refused}

@@ -1,16 +1,13 @@
 // What file.create and file.open do.
-ghost use Rattle.std.specs.Prelude.{◌≡◌, ◌<◌, ◌≤◌, ◌+◌, ◌^◌, ◌++◌, ◌∷◌, [], true, None, Some, IfOk, OnOk, OnErr, length};
+ghost use Rattle.std.specs.Prelude.{◌≡◌, ◌<◌, ◌≤◌, ◌+◌, ◌^◌, true, Some, IfOk, OnOk, OnErr, length};
 ghost use Rattle.sb_base.specs.Names.{is_name_of};
 ghost use Rattle.sb_call.specs.Statuses.{success};
 ghost use Rattle.sb_handles.specs.Agreements.{AgreesOnFiles, is_file};
 ghost use Rattle.sb_handles.specs.Effects.{IsDone};
 ghost use Rattle.sb_handles.specs.Shares.{opened};
 ghost use Rattle.sb_handles.specs.Tables.{with_handle};
-ghost use Rattle.sb_names.specs.Keys.{key_of, parent_of};
-ghost use Rattle.sb_names.specs.Maps.{found, put};
-ghost use Rattle.sb_names.specs.Nodes.{IsAt, number_of, rows_of};
 ghost use Rattle.sb_services.specs.Files.{Agrees};
-ghost use Rattle.sb_services.specs.FileCreation.{create, create_by, object_asked, on_file, replaced_as, share_of};
+ghost use Rattle.sb_services.specs.FileCreation.{create, create_by, object_asked, on_file, replaced_as};
 
 use crate::file_objects::{FileKind, FileObject};
 use crate::file_requests::{Disposition, FileRequest};
@@ -21,7 +18,7 @@ use sb_call::{
     SHARING_VIOLATION, SUCCESS,
 };
 use sb_handles::{HandleTable, Held, Service, ShareTable, agreement_is_kept};
-use sb_names::{Lookup, NameTree, NodeId, numbers_are_kept, parents_are_kept};
+use sb_names::{Lookup, numbers_are_kept, parents_are_kept};
 
 // What was done, as the extended word.
 const WAS_SUPERSEDED: u64 = 0;
@@ -111,8 +108,10 @@ impl FileService {
         if is_directory && (request.wants_file() || disposition.replaces()) {
             return Ok(Answer::refusal(FILE_IS_A_DIRECTORY));
         }
-        let conflict = self.shares.check(number, request.access, request.sharing);
-        if conflict.is_some() {
+        if self
+            .shares
+            .has_conflict(number, request.access, request.sharing)
+        {
             return Ok(Answer::refusal(SHARING_VIOLATION));
         }
         let handle = open(&mut self.shares, handles, target, on_file(number, request))?;

@@ -2,7 +2,7 @@
 ghost use Rattle.std.specs.Prelude.{◌≡◌, ⊤, ◌∷◌, [], codes, IfSome};
 ghost use Rattle.sb_services.specs.FileRequests.{create_request, is_invalid, needs_free_name, needs_object, open_request, replaces, valid_request, wants_directory, wants_file};
 
-use bitflags::{Flag, Flags};
+use bitflags::{Flag, Flags, bitflag_items};
 use sb_base::UnknownNumber;
 use sb_handles::{Access, Sharing};
 
@@ -51,10 +51,7 @@ impl Disposition {
     pub(crate) fn needs_object(self) -> bool
         ensures { result ≡ needs_object self }
     {
-        match self {
-            Disposition::Open | Disposition::Overwrite => true,
-            _ => false,
-        }
+        matches!(self, Disposition::Open | Disposition::Overwrite)
     }
 
     // Whether the name must be free.
@@ -68,11 +65,10 @@ impl Disposition {
     pub(crate) fn replaces(self) -> bool
         ensures { result ≡ replaces self }
     {
-        match self {
-            Disposition::Supersede | Disposition::Overwrite | Disposition::OverwriteOrCreate =>
-                true,
-            _ => false,
-        }
+        matches!(
+            self,
+            Disposition::Supersede | Disposition::Overwrite | Disposition::OverwriteOrCreate
+        )
     }
 }
 
@@ -80,23 +76,14 @@ impl Disposition {
 #[derive(Clone, Copy)]
 pub struct FileOptions(u64);
 
-impl FileOptions {
-    /// For directories alone (`FILE_DIRECTORY_FILE`).
-    pub const DIRECTORY: FileOptions = FileOptions(1);
+bitflag_items! {
+    impl FileOptions: u64 {
+        /// For directories alone (`FILE_DIRECTORY_FILE`).
+        const DIRECTORY = 1;
 
-    /// For files alone (`FILE_NON_DIRECTORY_FILE`).
-    pub const NON_DIRECTORY: FileOptions = FileOptions(0x40);
-
-    const FLAGS: &'static [Flag<FileOptions>] = &[
-        Flag {
-            name: "DIRECTORY",
-            value: FileOptions::DIRECTORY,
-        },
-        Flag {
-            name: "NON_DIRECTORY",
-            value: FileOptions::NON_DIRECTORY,
-        },
-    ];
+        /// For files alone (`FILE_NON_DIRECTORY_FILE`).
+        const NON_DIRECTORY = 0x40;
+    }
 }
 
 impl Flags for FileOptions {

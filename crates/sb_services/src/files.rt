@@ -1,11 +1,9 @@
 // The files and directories, and what each call but file.create does.
-ghost use Rattle.std.specs.Prelude.{◌≡◌, ◌<◌, ◌≤◌, ◌+◌, ◌-◌, ◌^◌, ◌++◌, ◌∷◌, [], true, None, IfOk, IfSome, OnOk, OnErr, length, slice_set};
+ghost use Rattle.std.specs.Prelude.{◌≡◌, ◌<◌, ◌≤◌, ◌+◌, ◌-◌, ◌^◌, true, None, IfOk, OnOk, OnErr, length, slice_set};
 ghost use Rattle.sb_base.specs.Names.{is_name_of};
 ghost use Rattle.sb_call.specs.Statuses.{success};
 ghost use Rattle.sb_handles.specs.Laws.{IsOn};
-ghost use Rattle.sb_names.specs.Maps.{found, put};
-ghost use Rattle.sb_names.specs.Keys.{key_of, parent_of};
-ghost use Rattle.sb_names.specs.Nodes.{IsAt, number_of, rows_of};
+ghost use Rattle.sb_names.specs.Nodes.{rows_of};
 ghost use Rattle.sb_names.specs.Objects.{IsNameOf};
 ghost use Rattle.sb_services.specs.FileSeeks.{IsSought, admits};
 ghost use Rattle.sb_services.specs.Files.{AreFiles, no_files, object_at, query, rename, can_start, started, closed};
@@ -18,7 +16,7 @@ use sb_call::{
 };
 use sb_handles::{Access, ShareTable, Sharing, handles_are_on_one_object};
 use sb_names::{
-    Lookup, NameTree, NodeId, is_below, numbers_are_kept, parents_are_kept, renames_keep_numbers,
+    Lookup, NameTree, is_below, numbers_are_kept, parents_are_kept, renames_keep_numbers,
 };
 use std::alloc::Global;
 use std::marker::Model;
@@ -83,30 +81,6 @@ pub(crate) fn set_attributes(objects: &mut Vec<FileObject>, number: u64, attribu
 {
     let kind = object_at(objects, number).kind;
     objects[(number - 1) as usize] = FileObject { kind, attributes };
-}
-
-// Places an object under a name that is not there, in a directory that is; it has the next number.
-pub(crate) fn add_object(
-    names: &mut NameTree,
-    objects: &mut Vec<FileObject>,
-    directory: Option<NodeId>,
-    name: &[u16],
-    object: FileObject,
-) -> Result<u64, NoMemory>
-    requires name { is_name_of name.now ≡ true }
-    requires at { IsAt names.old.nodes (number_of directory) (key_of (parent_of name.now)) }
-    requires absent { found (rows_of names.old.nodes) name.now ≡ None }
-    requires made { length objects.old.items < 2 ^ 63 }
-    ensures number { IfOk result (λ number. number ≡ length objects.old.items + 1) }
-    ensures names { OnOk result (rows_of names.new.nodes ≡ put (rows_of names.old.nodes) name.now (length objects.old.items + 1)) }
-    ensures objects { OnOk result (objects.new.items ≡ objects.old.items ++ object ∷ []) }
-    ensures err { OnErr result ((names.new.nodes ≡ names.old.nodes) × (objects.new.items ≡ objects.old.items)) }
-{
-    objects.reserve(1)?;
-    let number = objects.len() as u64 + 1;
-    names.add_at(directory, name, number)?;
-    objects.push_reserved(object);
-    Ok(number)
 }
 
 // Whether there may be names in a directory, by its object: it is no file. The root has no object and admits names.
@@ -227,8 +201,7 @@ impl FileService {
         };
         if self
             .shares
-            .check(number, RENAME_ACCESS, RENAME_SHARING)
-            .is_some()
+            .has_conflict(number, RENAME_ACCESS, RENAME_SHARING)
         {
             return Ok(Answer::refusal(SHARING_VIOLATION));
         }
@@ -241,10 +214,10 @@ impl FileService {
         requires name { is_name_of name.now ≡ true }
         ensures { result ≡ can_start self.now name.now }
     {
-        match seek_in(&self.names, &self.objects, name) {
-            Lookup::Absent { .. } => true,
-            _ => false,
-        }
+        matches!(
+            seek_in(&self.names, &self.objects, name),
+            Lookup::Absent { .. }
+        )
     }
 
     /// Places a directory or a file of the opening namespace. Returns false, and changes nothing, exactly if the parent of the
@@ -266,11 +239,11 @@ impl FileService {
         let Lookup::Absent { directory, .. } = seek_in(&self.names, &self.objects, name) else {
             return Ok(false);
         };
-        let object = FileObject {
-            kind: FileKind::of(dir),
-            attributes,
-        };
-        add_object(&mut self.names, &mut self.objects, directory, name, object)?;
+        self.objects.reserve(1)?;
+        let number = self.objects.len() as u64 + 1;
+        self.names.add_at(directory, name, number)?;
+        let kind = FileKind::of(dir);
+        self.objects.push_reserved(FileObject { kind, attributes });
         Ok(true)
     }
 

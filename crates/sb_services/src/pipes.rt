@@ -1,5 +1,5 @@
 // The pipes of the namespace.
-ghost use Rattle.std.specs.Prelude.{◌≡◌, ◌<◌, ◌≤◌, ◌+◌, ◌-◌, ◌^◌, true, false, None, Some, IfOk, OnOk, OnErr, MatchOption, is_some, not, length, slice_set, if◌then◌else◌};
+ghost use Rattle.std.specs.Prelude.{◌≡◌, ◌<◌, ◌≤◌, ◌+◌, ◌-◌, ◌^◌, true, false, None, Some, IfOk, OnOk, OnErr, MatchOption, not, length, slice_set};
 ghost use Rattle.sb_base.specs.Names.{is_name_of};
 ghost use Rattle.sb_call.specs.Statuses.{success};
 ghost use Rattle.sb_handles.specs.Effects.{IsDone};
@@ -145,14 +145,8 @@ impl PipeService {
         ensures err { OnErr result ((self.new ≡ self.old) × (handles.new.table ≡ handles.old.table)) }
     {
         let handle = handles.grant(target, on_pipe(row.number))?;
-        let more = row.handles + 1;
-        self.rows.replace(
-            name,
-            PipeRow {
-                handles: more,
-                ..row
-            },
-        );
+        let handles = row.handles + 1;
+        self.rows.replace(name, PipeRow { handles, ..row });
         Ok(handle)
     }
 

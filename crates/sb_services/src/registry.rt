@@ -167,10 +167,7 @@ impl KeyService {
         requires name { is_name_of name.now ≡ true }
         ensures { result ≡ can_start self.now name.now }
     {
-        match self.names.seek(name) {
-            Lookup::Absent { .. } => true,
-            _ => false,
-        }
+        matches!(self.names.seek(name), Lookup::Absent { .. })
     }
 
     /// Places a key of the opening namespace. It answers false, and changes nothing, exactly if the parent is not

@@ -1,16 +1,16 @@
 -- The lines of a text, cut at its first LF.
-use Rattle.std.proofs.Common.{inl, inr, nat_lt, ◌≡◌, ◌∙◌, ap, refl, sym, subst, zero, suc, not, Bool, true, false, cond, ℕ, ◌+◌, ◌-◌, ◌<◌, ◌≤◌, ◌==◌, List, [], ◌∷◌, Option, None, Some, unwrap_or, length, map, take, drop, get_or, arith}
+use Rattle.std.proofs.Common.{inl, inr, nat_lt, ◌≡◌, ◌∙◌, ap, refl, sym, subst, suc, not, Bool, true, false, cond, ℕ, ◌+◌, ◌-◌, ◌<◌, ◌≤◌, ◌==◌, List, [], ◌∷◌, Option, None, Some, unwrap_or, length, take, drop, get_or, arith}
 use Rattle.std.proofs.Math.ListN.{drop_of_length-le}
 use Rattle.std.proofs.Math.Seq.{drop-length}
 use Rattle.std.proofs.lemmas.List.{drop-drop, drop-take, length-drop, length-take-le, take-take}
-use Rattle.std.proofs.lemmas.List.Sums.{position_or_len_is, sum_by-cons}
+use Rattle.std.proofs.lemmas.List.Sums.{position_or_len_is}
 use Rattle.memchr.specs.Find.{IsFirstByte, is_byte}
 use Rattle.sb_text.proofs.LineLaws.{lines_some}
 use Rattle.std.proofs.lemmas.Grind.{common_steps}
 use Rattle.std.proofs.lemmas.Bool.Decides.{leb_tells, nat_tests}
-use Rattle.std.specs.List.{onto_first, position_or_len}
-use Rattle.std.specs.Prelude.{count_by, slice_get, slice_range}
-use Rattle.sb_text.specs.Lines.{lines_from, raw_lines, is_ended, numbered_from, raw_lines_from, without_cr}
+use Rattle.std.specs.List.{position_or_len}
+use Rattle.std.specs.Prelude.{slice_range}
+use Rattle.sb_text.specs.Lines.{raw_lines, is_ended, numbered_from, raw_lines_from}
 
 pub lines_at_first : (bs : List ℕ) → 0 < length bs → raw_lines bs ≡ take (position_or_len (λ b. b == 10) bs) bs ∷ raw_lines (drop (position_or_len (λ b. b == 10) bs + 1) bs)
 lines_at_first [] h = absurd (omega arith)
@@ -20,11 +20,6 @@ lines_at_first (b ∷ c ∷ bs) h = grind (arith, nat_tests, common_steps, lines
 pub lf_at_first : (bs : List ℕ) → position_or_len (λ b. b == 10) bs < length bs → get_or bs (position_or_len (λ b. b == 10) bs) 0 ≡ 10
 lf_at_first [] h = absurd (omega arith)
 lf_at_first (b ∷ bs) h = grind (arith, nat_tests, common_steps, lf_at_first bs)
-
--- an empty line is passed
-pub empty_line_passed : (n : ℕ) (bs : List ℕ) → 0 < length bs → (get_or bs 0 0 == 10) ≡ true → lines_from (n + 1) (raw_lines (drop 1 bs)) ≡ lines_from n (raw_lines bs)
-empty_line_passed n [] h k = absurd (omega arith)
-empty_line_passed n (b ∷ bs) h k = rw (k) refl
 
 untrue : (b : Bool) → ¬ (b ≡ true) → b ≡ false
 untrue true h = absurd (h refl)
@@ -114,45 +109,3 @@ pub cut_at_end : (text : List ℕ) (start end : ℕ) → start ≤ end → drop 
 cut_at_end text start end h =
     let e : end ≡ start + (end - start) = omega arith in
     ap (λ n. drop start (take n text)) e ∙ drop-take start (end - start) text
-
--- one more byte before the first line leaves the others as they are
-others_kept : (b k : ℕ) (lines : List (List ℕ)) → slice_get (map without_cr (onto_first b lines)) (suc k) ≡ slice_get (map without_cr lines) (suc k)
-others_kept b k [] = refl
-others_kept b k (line ∷ lines) = refl
-
--- the line that has k before it is found after some bytes, if it begins after them: as many fewer are before it as there are LFs among the bytes
-line_after : (n k : ℕ) (bs : List ℕ) → n ≤ length bs → count_by (λ b. b == 10) (take n bs) < k
-    → slice_get (map without_cr (raw_lines (drop n bs))) (k - count_by (λ b. b == 10) (take n bs)) ≡ slice_get (map without_cr (raw_lines bs)) k
-line_after zero k bs within less = let e : k - 0 ≡ k = omega arith in ap (slice_get (map without_cr (raw_lines bs))) e
-line_after (suc n) k [] within less = absurd (omega arith)
-line_after (suc n) zero (b ∷ bs) within less = absurd (omega arith)
-line_after (suc n) (suc k) (b ∷ bs) within less =
-    by_first (b == 10) (count_by (λ c. c == 10) (b ∷ take n bs)) (sum_by-cons (λ c. cond (c == 10) 1 0) b (take n bs)) less (λ j l. line_after n j bs (omega arith) l)
-  where
-    by_first : (t : Bool) (count : ℕ) → count ≡ cond t 1 0 + count_by (λ c. c == 10) (take n bs) → count < suc k
-        → ((j : ℕ) → count_by (λ c. c == 10) (take n bs) < j
-        → slice_get (map without_cr (raw_lines (drop n bs))) (j - count_by (λ c. c == 10) (take n bs)) ≡ slice_get (map without_cr (raw_lines bs)) j)
-        → slice_get (map without_cr (raw_lines (drop n bs))) (suc k - count) ≡ slice_get (map without_cr (cond t ([] ∷ raw_lines bs) (onto_first b (raw_lines bs)))) (suc k)
-    by_first true count e l later =
-        let less : suc k - count ≡ k - count_by (λ c. c == 10) (take n bs) = omega (arith, e) in
-        ap (slice_get (map without_cr (raw_lines (drop n bs)))) less ∙ later k (omega (arith, e, l))
-    by_first false count e l later =
-        let same : suc k - count ≡ suc k - count_by (λ c. c == 10) (take n bs) = omega (arith, e) in
-        ap (slice_get (map without_cr (raw_lines (drop n bs)))) same ∙ later (suc k) (omega (arith, e, l)) ∙ sym (others_kept b k (raw_lines bs))
-
--- what is kept while bytes of a text are passed that end before a line
-pub bytes_passed : (text rest later : List ℕ) (n k before passed : ℕ) → later ≡ drop n rest → n ≤ length rest → passed ≡ count_by (λ b. b == 10) (take n rest) → passed < k
-    → (length rest ≤ length text) × (drop (length text - length rest) text ≡ rest)
-    × (slice_get (map without_cr (raw_lines rest)) k ≡ slice_get (map without_cr (raw_lines text)) before)
-    → (length later ≤ length text) × (drop (length text - length later) text ≡ later)
-    × (slice_get (map without_cr (raw_lines later)) (k - passed) ≡ slice_get (map without_cr (raw_lines text)) before)
-bytes_passed text rest later n k before passed cut within count less (shorter, kept, found) =
-    let size : length later ≤ length text = omega (arith, ap length cut, length-drop n rest, shorter) in
-    let place : drop (length text - length later) text ≡ later =
-    ap (λ xs. drop (length text - length xs) text) cut ∙ rest_kept text rest n kept ∙ sym cut in
-    let few : count_by (λ b. b == 10) (take n rest) < k = omega (arith, count, less) in
-    let line : slice_get (map without_cr (raw_lines later)) (k - passed) ≡ slice_get (map without_cr (raw_lines rest)) k =
-    ap (λ xs. slice_get (map without_cr (raw_lines xs)) (k - passed)) cut
-    ∙ ap (λ i. slice_get (map without_cr (raw_lines (drop n rest))) (k - i)) count
-    ∙ line_after n k rest within few in
-    (size, place, line ∙ found)

@@ -1,18 +1,17 @@
 -- What is between quotes is text.
-use Rattle.std.proofs.Common.{◌≡◌, refl, sym, ap, subst, ◌∙◌, arith, ℕ, zero, ◌+◌, ◌-◌, ◌/◌, ◌%◌, ◌<◌, ◌≤◌, ◌⊎◌, ⊎_elim, suc, List, [], ◌∷◌, ◌++◌, true, false, not, cond, ◌&&◌, ◌||◌, nat_lt}
+use Rattle.std.proofs.Common.{◌≡◌, refl, sym, ap, subst, ◌∙◌, arith, ℕ, ◌+◌, ◌-◌, ◌/◌, ◌%◌, ◌<◌, ◌≤◌, ◌⊎◌, ⊎_elim, List, [], ◌∷◌, ◌++◌, true, false, not, cond, ◌&&◌, ◌||◌, nat_lt}
 use Rattle.std.proofs.Math.Utf8.{scalar, scalars, scalar_cases, encode, encodes}
 use Rattle.std.proofs.lemmas.Bool.{and_parts, cases_lt}
 use Rattle.std.proofs.lemmas.Bool.Decides.{nat_tests}
 use Rattle.std.proofs.lemmas.List.Folds.{list_all-append}
-use Rattle.std.proofs.lemmas.Str.{encode_ascii, chars-encodes, chars-IsAscii}
+use Rattle.std.proofs.lemmas.Str.{encode_ascii, chars-encodes}
 use Rattle.std.specs.Char.Escape.{encode_utf16}
 use Rattle.std.specs.List.{list_all}
-use Rattle.std.specs.Str.{chars, IsAscii}
+use Rattle.std.specs.Str.{chars}
 use Rattle.sb_text.proofs.WrittenStrings.{and_true}
 use Rattle.sb_text.specs.Strings.{QuotedStringsAreText}
 use Rattle.sb_base.specs.Surrogates.{is_high, is_low, is_surrogate, is_paired}
 use Rattle.sb_text.specs.TokenLaws.{is_quoted_byte}
-use Rattle.sb_text.specs.Tokens.{string_of}
 use Rattle.sb_base.specs.Wide.{utf16_of, is_text_unit}
 
 one_unit : (c : ℕ) → c < 65536 → encode_utf16 c ≡ c ∷ []
@@ -20,19 +19,6 @@ one_unit c h = let t : nat_lt c 65536 ≡ true = grind (arith, nat_tests) in rw 
 
 two_units : (c : ℕ) → 65536 ≤ c → encode_utf16 c ≡ (0xD800 + (c - 65536) / 0x400) ∷ (0xDC00 + (c - 65536) % 0x400) ∷ []
 two_units c h = let t : nat_lt c 65536 ≡ false = grind (arith, nat_tests) in rw (t) refl
-
--- ASCII is spelled by a unit for each byte
-units_of_ascii : (bs : List ℕ) → IsAscii bs → utf16_of bs ≡ bs
-units_of_ascii [] h = refl
-units_of_ascii (b ∷ bs) h = ap (λ us. us ++ utf16_of bs) (one_unit b (omega (arith, h 0))) ∙ ap (λ us. b ∷ us) (units_of_ascii bs (λ i. h (suc i)))
-
-ascii_from_test : (bs : List ℕ) → list_all (λ b. nat_lt b 128) bs ≡ true → IsAscii bs
-ascii_from_test [] h i = omega arith
-ascii_from_test (b ∷ bs) h zero = let t : nat_lt b 128 ≡ true = (and_parts (nat_lt b 128) (list_all (λ b. nat_lt b 128) bs) h).0 in grind (arith, nat_tests, t)
-ascii_from_test (b ∷ bs) h (suc i) = ascii_from_test bs (and_parts (nat_lt b 128) (list_all (λ b. nat_lt b 128) bs) h).1 i
-
-pub string_of_ascii : (bs : List ℕ) → list_all (λ b. nat_lt b 128) bs ≡ true → string_of bs ≡ bs
-string_of_ascii bs t = let h = ascii_from_test bs t in ap utf16_of (chars-IsAscii bs h) ∙ units_of_ascii bs h
 
 ascii_text : (c : ℕ) → c < 128 → list_all is_quoted_byte (c ∷ []) ≡ true → list_all is_text_unit (c ∷ []) ≡ true
 ascii_text c a h = grind (arith, nat_tests)

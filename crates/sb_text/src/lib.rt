@@ -40,5 +40,5 @@ pub use steps::{
 };
 pub use text_parts::{TextPart, line_or_empty};
 pub use tokens::{Token, Tokens};
-pub use utf8::{NotUtf8, ascii_units, string_of, text_of};
+pub use utf8::{NotUtf8, string_of, text_of};
 pub use words::{Words, version_in_words};

@@ -1,5 +1,5 @@
 // The lines of a text, and those that are neither blank nor comments, one after another.
-ghost use Rattle.std.specs.Prelude.{◌≡◌, drop, true, ◌∷◌, ◌==◌, ◌<◌, ◌≤◌, ◌+◌, ◌-◌, ◌^◌, [], length, map, take, count_by, slice_get, slice_index, slice_range, ℕ, nat_lt, None, Some, IfSome, MatchOption, ◌&&◌};
+ghost use Rattle.std.specs.Prelude.{◌≡◌, drop, true, ◌∷◌, ◌==◌, ◌<◌, ◌≤◌, ◌+◌, ◌-◌, ◌^◌, [], length, take, slice_index, slice_range, ℕ, nat_lt, None, Some, IfSome, MatchOption};
 ghost use Rattle.sb_text.specs.Lines.{is_blank, is_skipped, line_numbered, raw_lines, raw_lines_from, without_cr, NumberedLine, lines_of, lines_from};
 ghost use Rattle.std.specs.List.{position_or_len};
 ghost use Rattle.sb_text.specs.Tokens.{tokens_of};
@@ -8,7 +8,6 @@ use crate::tokens::Tokens;
 use memchr::memchr;
 use std::marker::Model;
 use std::ops::Range;
-use std::simd::prelude::*;
 
 /// Whether a byte is a space or a tab.
 pub(crate) fn is_blank(byte: u8) -> bool
@@ -30,22 +29,11 @@ pub(crate) fn is_skipped(line: &[u8]) -> bool
 }
 
 // How many bytes precede the first LF, all if there is none.
-fn lf_place(bytes: &[u8]) -> usize
-    ensures value { result ≡ position_or_len (λ b. b == 10) bytes.now }
-    ensures within { result ≤ length bytes.now }
-{
-    memchr(b'\n', bytes).unwrap_or(bytes.len())
-}
-
-// The same. No search begins for an empty line.
 fn line_len(bytes: &[u8]) -> usize
     ensures value { result ≡ position_or_len (λ b. b == 10) bytes.now }
     ensures within { result ≤ length bytes.now }
 {
-    match bytes {
-        [b'\n', ..] => 0,
-        _ => lf_place(bytes),
-    }
+    memchr(b'\n', bytes).unwrap_or(bytes.len())
 }
 
 // How many bytes of a line precede the one CR at its end, all if there is none.
@@ -152,47 +140,14 @@ pub fn line_count(bytes: &[u8]) -> u32
     count
 }
 
-// The bytes of a vector.
-const LANES: usize = 64;
-
-// The number of LFs among the first sixty-four bytes.
-fn lfs_in(bytes: &[u8]) -> u32
-    requires { LANES ≤ length bytes.now }
-    ensures { result ≡ count_by (λ b. b == 10) (take LANES bytes.now) }
-{
-    u8x64::from_slice(bytes)
-        .simd_eq(u8x64::splat(b'\n'))
-        .to_bitmask()
-        .count_ones()
-}
-
-// What is left of a text once vectors of bytes are passed, and how many lines of it, of which the first may be a part of one, are before the line
-// that has this many before it. No vector in which that line begins is passed, nor any after it.
-fn after_vectors(text: &[u8], before: u32) -> (&[u8], u32)
-    ensures line { slice_get (map without_cr (raw_lines result.0.now)) result.1 ≡ slice_get (map without_cr (raw_lines text.now)) before }
-    ensures rest { drop (length text.now - length result.0.now) text.now ≡ result.0.now }
-    ensures within { length result.0.now ≤ length text.now }
-{
-    let mut rest = text;
-    let mut left = before;
-    while rest.len() >= LANES {
-        let passed = lfs_in(rest);
-        if left <= passed {
-            return (rest, left);
-        }
-        left -= passed;
-        rest = rest.split_at(LANES).1;
-    }
-    (rest, left)
-}
-
 /// Where the line of this number, from 1 among all lines, is in a text, without its LF and without one CR at its end; None if there is no such line.
 #[tactic(auto, using(crate::proofs::LineLemmas::rest_kept, crate::proofs::LineLemmas::line_in_text))]
 pub(crate) fn line_place(number: u32, text: &[u8]) -> Option<Range<usize>>
     ensures line { MatchOption result (line_numbered number text.now ≡ None) (λ place. line_numbered number text.now ≡ Some (slice_range text.now place.start place.end)) }
     ensures within { IfSome result (λ place. (place.start ≤ place.end) × (place.end ≤ length text.now)) }
 {
-    let (mut rest, mut before) = after_vectors(text, number.saturating_sub(1));
+    let mut rest = text;
+    let mut before = number.saturating_sub(1);
     while let Some((line, later)) = cut_bytes(rest) {
         if before == 0 {
             let start = text.len() - rest.len();
@@ -249,33 +204,6 @@ impl<'a> Model for Lines<'a> {
     ghost invariant = { λ l. l.passed + length l.rest.now + 1 < 2 ^ 32 };
 }
 
-// Whether a text begins with an empty line that ends with LF alone.
-fn starts_with_lf(text: &str) -> bool
-    ensures { result ≡ (nat_lt 0 (length text.now) && slice_index text.now 0 == 10) }
-{
-    match text.as_bytes() {
-        [first, ..] => *first == b'\n',
-        [] => false,
-    }
-}
-
-// What follows the empty lines that a text begins with, and the number of all lines before it, if this many are before the text.
-#[tactic(auto, using(crate::proofs::LineLemmas::empty_line_passed))]
-fn after_empty_lines(text: &str, passed: u32) -> (&str, u32)
-    requires { passed + length text.now + 1 < 2 ^ 32 }
-    ensures lines { lines_from (result.1 + 1) (raw_lines result.0.now) ≡ lines_from (passed + 1) (raw_lines text.now) }
-    ensures short { result.1 + length result.0.now ≤ passed + length text.now }
-    ensures within { length result.0.now ≤ length text.now }
-{
-    let mut rest = text;
-    let mut lines = passed;
-    while starts_with_lf(rest) {
-        rest = after_ascii(rest, 0);
-        lines += 1;
-    }
-    (rest, lines)
-}
-
 impl<'a> Lines<'a> {
     /// The lines of a text of fewer than 2^32 - 1 bytes.
     pub fn new(text: &'a str) -> Lines<'a>
@@ -295,13 +223,14 @@ impl<'a> Lines<'a> {
         ensures short { IfSome result (λ line. length line.text.now + 1 < 2 ^ 32) }
     {
         while let Some((line, later)) = cut_text(self.rest) {
-            let number = self.passed + 1;
-            let (rest, passed) = after_empty_lines(later, number);
-            self.rest = rest;
-            self.passed = passed;
+            self.rest = later;
+            self.passed += 1;
             let text = text_without_cr(line);
             if !is_skipped(text.as_bytes()) {
-                return Some(Line { number, text });
+                return Some(Line {
+                    number: self.passed,
+                    text,
+                });
             }
         }
         None

@@ -1,5 +1,5 @@
 // Numbers below 2^64.
-ghost use Rattle.std.specs.Prelude.{◌≡◌, ◌∷◌, ◌≤◌, ◌<◌, ◌*◌, ◌+◌, [], length, None, Some, if◌then◌else◌};
+ghost use Rattle.std.specs.Prelude.{◌≡◌, ◌≤◌, ◌*◌, ◌+◌};
 ghost use Rattle.std.specs.List.{list_all};
 ghost use Rattle.sb_text.specs.Numbers.{number_of, decimal_of, hexadecimal_of, is_decimal_digit, is_hexadecimal_digit, digit_of, value_from, below_2_64};
 
@@ -57,47 +57,14 @@ fn are_hexadecimal_digits(word: &[u8]) -> bool
     word.iter().all(|byte| is_hexadecimal_digit(*byte))
 }
 
-// The value of one decimal digit.
-#[tactic(auto, using(crate::proofs::Values::one_decimal, crate::proofs::Values::no_decimal))]
-fn decimal_digit(digit: u8) -> Option<u64>
-    ensures { result ≡ decimal_of (digit ∷ []) }
-{
-    if is_decimal_digit(digit) {
-        Some(u64::from(digit) - 48)
-    } else {
-        None
-    }
-}
-
-// The value of at most 19 decimal digits, which is below 2^64. None exactly if a byte is no digit.
-#[tactic(auto, using(crate::proofs::Values::digits_past, crate::proofs::Values::no_digits, crate::proofs::Values::digit_added, crate::proofs::Values::digit_fits))]
-fn short_decimal(digits: &[u8]) -> Option<u64>
-    requires { length digits.now ≤ 19 }
-    ensures { result ≡ (if list_all is_decimal_digit digits.now then Some (value_from 10 0 digits.now) else None) }
-{
-    let mut value = 0u64;
-    for digit in digits {
-        if !is_decimal_digit(*digit) {
-            return None;
-        }
-        value = value * 10 + u64::from(*digit - b'0');
-    }
-    Some(value)
-}
-
 /// The value of 1 to 20 decimal digits, if it is below 2^64.
-#[tactic(auto, using(crate::proofs::Values::below_some))]
 pub fn decimal_of(word: &[u8]) -> Option<u64>
     ensures { result ≡ decimal_of word.now }
 {
-    match word {
-        [] => None,
-        // Most numbers have one digit.
-        [digit] => decimal_digit(*digit),
-        _ if word.len() <= 19 => short_decimal(word),
-        _ if word.len() == 20 && are_decimal_digits(word) => value_of(10, word),
-        _ => None,
+    if word.is_empty() || word.len() > 20 || !are_decimal_digits(word) {
+        return None;
     }
+    value_of(10, word)
 }
 
 // The value of 1 to 16 hexadecimal digits in either case.

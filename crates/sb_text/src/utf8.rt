@@ -1,6 +1,5 @@
 // Where bytes are not UTF-8, and what quoted tokens mean.
-ghost use Rattle.std.specs.Prelude.{◌≡◌, ◌<◌, ◌≤◌, ◌^◌, ◌+◌, length, is_some, nat_lt, None, Some, IfOk, IfSome, MatchResult};
-ghost use Rattle.std.specs.List.{list_all};
+ghost use Rattle.std.specs.Prelude.{◌≡◌, ◌<◌, ◌≤◌, ◌^◌, ◌+◌, length, None, Some, IfOk, MatchResult};
 ghost use Rattle.sb_text.specs.Utf8.{first_place, not_utf8_place, place_after};
 ghost use Rattle.sb_text.specs.Tokens.{string_of};
 
@@ -52,48 +51,9 @@ fn place_after(front: &[u8]) -> NotUtf8
     NotUtf8 { line, column }
 }
 
-fn is_ascii(byte: u8) -> bool
-    ensures { result ≡ nat_lt byte 128 }
-{
-    byte < 128
-}
-
-// Whether all bytes are ASCII. Most strings are short: a loop over bytes is faster than std's test by words.
-fn are_ascii(bytes: &[u8]) -> bool
-    ensures { result ≡ list_all (λ b. nat_lt b 128) bytes.now }
-{
-    bytes.iter().all(|byte| is_ascii(*byte))
-}
-
-/// The units that a quoted token means, as bytes, if all of its characters are ASCII.
-#[tactic(auto, using(crate::proofs::QuotedStrings::string_of_ascii))]
-pub fn ascii_units(quoted: &str) -> Option<&[u8]>
-    ensures units { IfSome result (λ units. units.now ≡ string_of quoted.now) }
-    ensures ascii { is_some result ≡ list_all (λ b. nat_lt b 128) quoted.now }
-{
-    let bytes = quoted.as_bytes();
-    if are_ascii(bytes) { Some(bytes) } else { None }
-}
-
-// The wide string of ASCII bytes: a unit for each.
-fn from_ascii(alloc: Global, bytes: &[u8]) -> Result<Wide, NoMemory>
-    ensures { IfOk result (λ wide. wide ≡ bytes.now) }
-{
-    let mut units = Vec::with_capacity(alloc, bytes.len())?;
-    for byte in bytes {
-        units.push_reserved(u16::from(*byte));
-    }
-    Ok(Wide::new(units))
-}
-
 /// The wide string that a quoted token means: the UTF-16 units of its characters, without escapes.
-#[tactic(auto, using(crate::proofs::QuotedStrings::string_of_ascii))]
 pub fn string_of(alloc: Global, quoted: &str) -> Result<Wide, NoMemory>
     ensures { IfOk result (λ wide. wide ≡ string_of quoted.now) }
 {
-    if !are_ascii(quoted.as_bytes()) {
-        return Wide::from_str(alloc, quoted);
-    }
-    let wide = from_ascii(alloc, quoted.as_bytes())?;
-    Ok(wide)
+    Wide::from_str(alloc, quoted)
 }

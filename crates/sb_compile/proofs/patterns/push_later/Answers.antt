@@ -17,7 +17,7 @@ loop-run-preserved c =
     let later = c.in-Some.later.now in
     let whole = c.args.code.now ++ closed negated (later_code param (slice_split is_any c.args.cells.now)) in
     let next = last_if c.is_none.result negated (opcode param FOLD (op.Text run Forward)) in (
-      later_pushed negated c.is_none.result param run later c.loop-run.rest.now c.loop-run.code c.push_run.new.code whole
-          c.in-Some.ensures.parts c.is_none.ensures c.in_ok-push_run.ensures c.loop-run.invariant.0,
-      omega (arith, pushed_length c.loop-run.code c.push_run.new.code next c.in_ok-push_run.ensures, c.loop-run.invariant.1, c.in-Some.ensures.shorter),
+      later_pushed negated c.is_none.result param run later c.loop-run.rest.now c.loop-run.code c.push_text.new.code whole
+          c.in-Some.ensures.parts c.is_none.ensures c.in_ok-push_text.ensures c.loop-run.invariant.0,
+      omega (arith, pushed_length c.loop-run.code c.push_text.new.code next c.in_ok-push_text.ensures, c.loop-run.invariant.1, c.in-Some.ensures.shorter),
     )

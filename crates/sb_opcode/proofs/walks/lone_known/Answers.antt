@@ -6,10 +6,11 @@ use Rattle.sb_opcode.proofs.walks.lone_known.Goals as goal
 
 pub returns : goal.returns
 returns c =
-    let test = c.in_ok-test.test in
-    let cells = map cell_of test.cells.now in (
-      front_opcode test.param cells test.whole,
-      c.in_ok-test.ensures,
+    let param = c.in_ok-param.param in
+    let cells = map cell_of c.in_ok-param.cells.now in
+    let whole = c.in_ok-param.whole in (
+      front_opcode param cells whole,
+      c.in_ok-param.ensures,
       refl,
-      front_step c.args.args.now test.param cells test.whole ∙ ap group_end (sym c.is_front.ensures),
+      front_step c.args.args.now param cells whole ∙ ap group_end (sym c.is_front.ensures),
     )
