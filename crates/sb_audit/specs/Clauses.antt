@@ -2,6 +2,8 @@
 use Rattle.std.specs.Prelude.{ℕ, ◌+◌, ◌/◌, ◌-◌, ◌%◌, Bool, true, false, not, ◌&&◌, ◌||◌, ◌==◌, nat_lt, nat_le, List, [], ◌∷◌, count_by, bit_and, Option, None, Some, is_none, is_some, slice_get}
 use Rattle.std.specs.List.{list_any, list_all}
 use Rattle.sb_actor.specs.Acts.{busy}
+pub use Rattle.sb_actor.specs.Marks.{place_of, thread_of}
+use Rattle.sb_actor.specs.Marks.{marks_of_thread}
 use Rattle.sb_actor.specs.Places.{clean_channels, mark_at, statement_at}
 use Rattle.sb_actor.specs.ThreadTable.{has_clean}
 use Rattle.sb_block.specs.Blocks.{block}
@@ -128,20 +130,13 @@ reply_due space target (Faked tag n) = fixed faked_outcome success []
 
 -- ---- 5. own
 
--- the thread with number k has the marks from (k + 1) * 65536, one for each place
-abbrev pub thread_of : ℕ → ℕ
-thread_of mark = mark / 65536 - 1
-
-abbrev pub place_of : ℕ → ℕ
-place_of mark = mark % 65536
-
 -- an entry of a target is on a clean channel
 abbrev pub is_on_clean : Script → ℕ → EntryLine → Bool
 is_on_clean script target e = is_target script target e.target && is_clean script target e.channel
 
 -- and its mark is one of this thread's
 abbrev pub is_of_thread : Script → ℕ → ℕ → EntryLine → Bool
-is_of_thread script target thread e = is_on_clean script target e && e.mark / 65536 == thread + 1
+is_of_thread script target thread e = is_on_clean script target e && e.mark / marks_of_thread == thread + 1
 
 -- the place is above those of the thread's entries on clean channels
 abbrev pub is_above : Script → List EntryLine → ℕ → ℕ → ℕ → Bool
@@ -156,7 +151,7 @@ is_decided policy mark d s = false
 -- the mark is that of a call of a thread of the target, and the decision is that on this call
 abbrev pub is_of_call : Policy → Script → ℕ → EntryLine → Bool
 is_of_call policy script target e =
-    nat_le 65536 e.mark && is_decided policy e.mark e.decision (statement_at script target (thread_of e.mark) (place_of e.mark))
+    nat_le marks_of_thread e.mark && is_decided policy e.mark e.decision (statement_at script target (thread_of e.mark) (place_of e.mark))
 
 -- an entry on a clean channel is that of a call, above the thread's earlier ones
 abbrev pub is_own : Policy → Script → List EntryLine → ℕ → EntryLine → Bool

@@ -20,6 +20,7 @@ use Rattle.sb_transcript.specs.declared.read_lines.ShownDecision.TheVariants.{Re
 use Rattle.sb_transcript.specs.declared.read_lines.ShownReply.{ShownReply}
 use Rattle.sb_transcript.specs.declared.read_lines.ShownResult.{ShownResult}
 use Rattle.sb_transcript.specs.declared.read_lines.ShownResult.TheVariants as result
+use Rattle.sb_actor.specs.Marks.{marks_of_thread}
 use Rattle.sb_audit.specs.Before.{entry_count, has_totals, result_count}
 use Rattle.sb_audit.specs.Clauses.{has_rule, is_decided, place_of, thread_of}
 use Rattle.sb_rule.specs.Accesses.{writing_bits}
@@ -124,7 +125,7 @@ due_decision policy e s = own.CallMark
 
 abbrev pub due_call : Policy → Script → ℕ → EntryLine → OwnDue
 due_call policy script target e =
-    if nat_le 65536 e.mark then due_decision policy e (statement_at script target (thread_of e.mark) (place_of e.mark)) else own.CallMark
+    if nat_le marks_of_thread e.mark then due_decision policy e (statement_at script target (thread_of e.mark) (place_of e.mark)) else own.CallMark
 
 -- ---- 6. result
 

@@ -16,6 +16,7 @@ use Rattle.sb_transcript.specs.declared.read_lines.ShownDecision.TheVariants.{Re
 use Rattle.sb_transcript.specs.declared.read_lines.ShownResult.{ShownResult}
 use Rattle.sb_audit.specs.Answers.{refutation}
 use Rattle.sb_audit.specs.Audited.{policy_of}
+use Rattle.sb_actor.specs.Marks.{marks_of_thread}
 use Rattle.sb_audit.specs.Before.{entries_of, has_totals, performed_of, space_after, space_with, target_of}
 use Rattle.sb_audit.specs.Clauses.{has_channel, is_denied, is_due_after, is_faked, is_of_call, is_performed, is_refused, is_reply_of, needs_entry, place_of, reply_due, same_totals, shows_rule, suits, thread_of, totals_due}
 use Rattle.sb_audit.specs.Comparing.{same_reply}
@@ -68,7 +69,7 @@ pub record IsAt (policy : Policy) (script : Script) (rows : List (List (Option O
   pub clean : is_clean script target e.channel ≡ true
   pub own : is_call_kept policy script rows target e ≡ true
   pub above : length (row_at rows target (thread_of e.mark)) ≤ place_of e.mark
-  pub marked : 65536 ≤ e.mark
+  pub marked : marks_of_thread ≤ e.mark
   pub thread_is : thread ≡ thread_of e.mark
   pub place_is : place ≡ place_of e.mark
   pub of_target : target < 8
@@ -173,7 +174,7 @@ pub record AreAtMost (n : ℕ) (t : TotalsLine) : Type 0 where
 abbrev pub RowsFollow : Bool → ℕ → EntryLine → List (List (Option OwnReply)) → List (List (Option OwnReply)) → Type 0
 RowsFollow false target e old new = new ≡ old
 RowsFollow true target e old new =
-    (65536 ≤ e.mark) × (thread_of e.mark < 4) × (length (row_at old target (thread_of e.mark)) ≤ place_of e.mark)
+    (marks_of_thread ≤ e.mark) × (thread_of e.mark < 4) × (length (row_at old target (thread_of e.mark)) ≤ place_of e.mark)
     × IsPut target (thread_of e.mark) (place_of e.mark) (record { channel = e.channel; reply = e.reply }) old new
 
 -- what is kept after an entry

@@ -1,6 +1,7 @@
 -- The replies of entries on clean channels as they are kept: a row for each thread, four for each target, with the reply to each call at its place.
 use Rattle.std.specs.Prelude.{◌≡◌, ℕ, ◌+◌, ◌*◌, ◌<◌, Bool, true, false, ◌&&◌, ◌==◌, nat_lt, nat_le, List, [], length, Option, None, Some, slice_index_or, if◌then◌else◌}
 use Rattle.sb_actor.specs.Places.{mark_at}
+use Rattle.sb_actor.specs.Marks.{marks_of_thread}
 use Rattle.sb_statements.specs.declared.scripts.Script.{Script}
 use Rattle.sb_transcript.specs.declared.read_lines.EntryLine.{EntryLine}
 use Rattle.sb_transcript.specs.declared.read_lines.ShownResult.{ShownResult}
@@ -38,5 +39,5 @@ fits_slot r (Some own) = is_reply_of r own.channel own.reply
 -- the rows agree with the entries: on which places are above them, and on whether a result is the reply of those that answer its call
 pub record KeepsRows (script : Script) (entries : List EntryLine) (rows : List (List (Option OwnReply))) : Type 0 where
   pub above : (t k p : ℕ) → is_above script entries t k p ≡ nat_le (length (row_at rows t k)) p
-  pub has : (t k p : ℕ) (r : ShownResult) → p < 65536 → has_entry script entries t (mark_at k p) r ≡ has_slot r (slot_at rows t k p)
-  pub fits : (t k p : ℕ) (r : ShownResult) → p < 65536 → fits_entries script entries t (mark_at k p) r ≡ fits_slot r (slot_at rows t k p)
+  pub has : (t k p : ℕ) (r : ShownResult) → p < marks_of_thread → has_entry script entries t (mark_at k p) r ≡ has_slot r (slot_at rows t k p)
+  pub fits : (t k p : ℕ) (r : ShownResult) → p < marks_of_thread → fits_entries script entries t (mark_at k p) r ≡ fits_slot r (slot_at rows t k p)

@@ -3,37 +3,17 @@ ghost use Rattle.std.specs.Prelude.{◌≡◌, ◌∷◌, bit_and};
 ghost use Rattle.sb_book.specs.Decisions.{read_only_args};
 ghost use Rattle.sb_rule.specs.Accesses.{read_only_bits};
 ghost use Rattle.sb_call.specs.declared.arguments.Arg.TheVariants.{Num};
-ghost use Rattle.sb_audit.specs.Comparing.{same_numbers, same_tag, same_argument, same_arguments};
+ghost use Rattle.sb_audit.specs.Comparing.{same_argument, same_arguments};
 
-use sb_call::{Arg, CallTag};
+use sb_call::Arg;
 use sb_rule::READ_ONLY_BITS;
-
-/// Whether lists of numbers are the same.
-pub(crate) fn same_numbers(a: &[u64], b: &[u64]) -> bool
-    ensures { result ≡ same_numbers a.now b.now }
-{
-    a == b
-}
-
-fn same_units(a: &[u16], b: &[u16]) -> bool
-    ensures { result ≡ same_numbers a.now b.now }
-{
-    a == b
-}
-
-/// Whether tags are the same.
-pub(crate) fn same_tag(a: CallTag, b: CallTag) -> bool
-    ensures { result ≡ same_tag a b }
-{
-    a == b
-}
 
 fn same_argument(a: &Arg, b: &Arg) -> bool
     ensures { result ≡ same_argument a.now b.now }
 {
     match (a, b) {
         (Arg::Num(a), Arg::Num(b)) => *a == *b,
-        (Arg::Str(a), Arg::Str(b)) => same_units(a.as_units(), b.as_units()),
+        (Arg::Str(a), Arg::Str(b)) => a.as_units() == b.as_units(),
         _ => false,
     }
 }

@@ -50,10 +50,5 @@ pub(crate) fn with_result(totals: TotalsLine) -> TotalsLine
 pub(crate) fn same_totals(a: &TotalsLine, b: &TotalsLine) -> bool
     ensures { result ≡ same_totals a.now b.now }
 {
-    a.entries == b.entries
-        && a.performed == b.performed
-        && a.faked == b.faked
-        && a.denied == b.denied
-        && a.refused == b.refused
-        && a.results == b.results
+    *a == *b
 }

@@ -10,22 +10,20 @@ ghost use Rattle.sb_audit.specs.Clauses.{is_decided};
 ghost use Rattle.sb_audit.specs.Comparing.{same_decision};
 ghost use Rattle.sb_audit.specs.Dues.{due_call, due_decision};
 ghost use Rattle.sb_actor.specs.Found.{is_encoded};
+ghost use Rattle.sb_actor.specs.Marks.{place_of, thread_of};
 ghost use Rattle.sb_audit.specs.Kept.{IsOwnPlace};
 
-use crate::arguments::{same_arguments, same_read_only, same_tag};
+use crate::arguments::{same_arguments, same_read_only};
 use crate::contexts::Context;
 use crate::dues::OwnDue;
 use crate::own_places::OwnPlace;
 use crate::rows::Rows;
-use sb_actor::sound_statement_at;
+use sb_actor::{CallMark, sound_statement_at};
 use sb_block::blocks_come_back;
 use sb_call::{Arg, CallTag};
 use sb_rule::{Action, Judge, Verdict};
 use sb_statements::Statement;
 use sb_transcript::{EntryLine, ShownDecision};
-
-// How many marks a thread has. The first has those from this number on.
-const MARKS: u64 = 65536;
 
 // Whether a decision is the one that a verdict on a call makes.
 fn shows_verdict(decision: &ShownDecision, tag: CallTag, args: &[Arg], verdict: Verdict) -> bool
@@ -33,7 +31,7 @@ fn shows_verdict(decision: &ShownDecision, tag: CallTag, args: &[Arg], verdict: 
 {
     match verdict {
         Verdict::NoRule => match decision {
-            ShownDecision::NoRule(shown) => same_tag(*shown, tag),
+            ShownDecision::NoRule(shown) => *shown == tag,
             _ => false,
         },
         Verdict::Rule { line, action } => shows_action(decision, tag, args, line, action),
@@ -52,13 +50,13 @@ fn shows_action(
 {
     match (action, decision) {
         (Action::Deny, ShownDecision::Denied { tag: shown, line }) => {
-            same_tag(*shown, tag) && *line == deciding
+            *shown == tag && *line == deciding
         }
         (Action::Alarm, ShownDecision::Alarmed { tag: shown, line }) => {
-            same_tag(*shown, tag) && *line == deciding
+            *shown == tag && *line == deciding
         }
         (Action::Fake, ShownDecision::Faked { tag: shown, line }) => {
-            same_tag(*shown, tag) && *line == deciding
+            *shown == tag && *line == deciding
         }
         (
             Action::Allow,
@@ -67,9 +65,7 @@ fn shows_action(
                 args: given,
                 line,
             },
-        ) => {
-            same_tag(*shown, tag) && same_arguments(given.as_slice(), args) && *line == deciding
-        }
+        ) => { *shown == tag && same_arguments(given.as_slice(), args) && *line == deciding }
         (
             Action::ReadOnly,
             ShownDecision::ReadOnly {
@@ -77,9 +73,7 @@ fn shows_action(
                 args: given,
                 line,
             },
-        ) => {
-            same_tag(*shown, tag) && same_read_only(given.as_slice(), args) && *line == deciding
-        }
+        ) => { *shown == tag && same_read_only(given.as_slice(), args) && *line == deciding }
         _ => false,
     }
 }
@@ -122,11 +116,11 @@ pub(crate) fn own_place<J: Judge>(
     if !context.is_clean(target, entry.channel) {
         return OwnPlace::NotClean;
     }
-    if entry.mark < MARKS {
+    let Some(mark) = CallMark::of(entry.mark) else {
         return OwnPlace::NotOwn;
-    }
-    let thread = (entry.mark / MARKS - 1) as usize;
-    let place = (entry.mark % MARKS) as usize;
+    };
+    let thread = mark.thread as usize;
+    let place = mark.place as usize;
     let Some(statement) = sound_statement_at(context.script(), target, thread, place) else {
         return OwnPlace::NotOwn;
     };
@@ -144,11 +138,12 @@ fn due_decision<J: Judge>(
     judge: &J,
     target: u32,
     entry: &EntryLine,
+    mark: CallMark,
     statement: &Statement,
 ) -> OwnDue
     requires there { target < length (J.policies judge.now) }
     requires encoded { is_encoded statement.now ≡ true }
-    requires marked { 65536 ≤ entry.now.mark }
+    requires marked { (mark.thread ≡ thread_of entry.now.mark) × (mark.place ≡ place_of entry.now.mark) }
     ensures { result ≡ due_decision (policy_at (J.policies judge.now) target) entry.now (Some statement.now) }
 {
     match statement {
@@ -160,8 +155,8 @@ fn due_decision<J: Judge>(
                 };
             }
             OwnDue::Later {
-                thread: entry.mark / MARKS - 1,
-                place: entry.mark % MARKS,
+                thread: mark.thread,
+                place: mark.place,
             }
         }
         _ => OwnDue::CallMark,
@@ -179,13 +174,12 @@ pub(crate) fn due_call<J: Judge>(
     requires judge { J.policies judge.now ≡ (setting_of context.now.policies context.now.script).policies }
     ensures { result ≡ due_call (policy_of context.now.policies context.now.script target) context.now.script target entry.now }
 {
-    if entry.mark < MARKS {
+    let Some(mark) = CallMark::of(entry.mark) else {
         return OwnDue::CallMark;
-    }
-    let thread = (entry.mark / MARKS - 1) as usize;
-    let place = (entry.mark % MARKS) as usize;
+    };
+    let (thread, place) = (mark.thread as usize, mark.place as usize);
     match sound_statement_at(context.script(), target, thread, place) {
-        Some(statement) => due_decision(judge, target, entry, statement),
+        Some(statement) => due_decision(judge, target, entry, mark, statement),
         None => OwnDue::CallMark,
     }
 }

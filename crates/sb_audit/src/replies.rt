@@ -8,7 +8,6 @@ ghost use Rattle.sb_audit.specs.Comparing.{same_reply};
 ghost use Rattle.sb_audit.specs.Dues.{due_reply, other_word, whole_reply};
 ghost use Rattle.sb_audit.specs.Kept.{shown_fits};
 
-use crate::arguments::same_numbers;
 use crate::dues::ReplyDue;
 use sb_base::NoMemory;
 use sb_book::{DENIED_OUTCOME, FAKED_OUTCOME, PERFORMED_OUTCOME, REFUSED_OUTCOME, fault_words};
@@ -20,10 +19,7 @@ use sb_transcript::{ShownDecision, ShownReply};
 pub(crate) fn same_reply(a: &ShownReply, b: &ShownReply) -> bool
     ensures { result ≡ same_reply a.now b.now }
 {
-    a.outcome == b.outcome
-        && a.status == b.status
-        && a.handle == b.handle
-        && same_numbers(a.ext.as_slice(), b.ext.as_slice())
+    *a == *b
 }
 
 // A reply without a handle.
@@ -70,8 +66,7 @@ pub(crate) fn reply_due(
 {
     match decision {
         ShownDecision::Allowed { tag, args, .. } | ShownDecision::ReadOnly { tag, args, .. } => {
-            let reply = perform(kernel, target, *tag, args.as_slice())?;
-            Ok(reply)
+            perform(kernel, target, *tag, args.as_slice())
         }
         ShownDecision::Refused(fault) => Ok(fixed(
             REFUSED_OUTCOME,

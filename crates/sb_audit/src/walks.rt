@@ -89,8 +89,7 @@ fn keep_reply(
     match place {
         OwnPlace::At { thread, place } => {
             let EntryLine { channel, reply, .. } = entry;
-            rows.put(target, thread, place, OwnReply { channel, reply })?;
-            Ok(())
+            rows.put(target, thread, place, OwnReply { channel, reply })
         }
         OwnPlace::NotClean | OwnPlace::NotOwn => Ok(()),
     }
@@ -191,8 +190,7 @@ impl Walk {
             let channels = context.script().channel_count(target);
             return Ok(Some(Due::Place(PlaceDue::Channel { channels })));
         }
-        let failing = self.decision(context, judge, target, entry)?;
-        Ok(failing)
+        self.decision(context, judge, target, entry)
     }
 
     // What is due by clause 6, if it fails at a result. If it does not, the result is counted.
@@ -242,10 +240,7 @@ impl Walk {
             return Ok(Some(self.due(context)));
         }
         match line {
-            Line::Entry(entry) => {
-                let failing = self.entry(context, judge, entry)?;
-                Ok(failing)
-            }
+            Line::Entry(entry) => self.entry(context, judge, entry),
             Line::Result(line) => Ok(self.result_(context, &line)),
             Line::Totals(totals) => Ok(self.last(&totals)),
         }

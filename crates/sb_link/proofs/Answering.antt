@@ -1,6 +1,7 @@
 -- The answers to the calls of a script that is ready are a legal history.
 use Rattle.std.proofs.Common.{◌≡◌, ◌∙◌, ℕ, ◌+◌, ◌<◌, ◌≤◌, Bool, true, false, ◌&&◌, if◌then◌else◌, List, [], ◌∷◌, ◌++◌, length, Result, Ok, Err, refl, subst, ap, sym, arith}
-use Rattle.std.specs.Prelude.{⊤, is_ok, nat_le, slice_index}
+use Rattle.std.proofs.lemmas.Bool.Decides.{nat_tests}
+use Rattle.std.specs.Prelude.{⊤, is_ok, nat_le, nat_lt, slice_index}
 use Rattle.std.specs.List.{list_all}
 use Rattle.std.proofs.lemmas.Bool.{and_parts}
 use Rattle.sb_actor.specs.Places.{mark_at}
@@ -22,7 +23,8 @@ use Rattle.sb_rule.specs.Verdicts.{policy_at}
 use Rattle.sb_rule.specs.WellMade.{are_well_made}
 use Rattle.sb_rule.specs.declared.policies.Policy.{Policy}
 use Rattle.sb_statements.specs.Soundness.{is_sound}
-use Rattle.sb_statements.specs.Units.{statement_has_units, target_has_units, thread_has_units}
+use Rattle.sb_statements.specs.PlacedStatements.{Placed, PlacedStatementsAreSound, placed_statements}
+use Rattle.sb_statements.specs.Units.{statement_has_units}
 use Rattle.sb_statements.specs.declared.scripts.Script.{Script}
 use Rattle.sb_statements.specs.declared.scripts.TargetScript.{TargetScript}
 use Rattle.sb_statements.specs.declared.statements.Statement.{Statement}
@@ -31,13 +33,13 @@ use Rattle.sb_text.specs.Steps.{◌>>=◌}
 use Rattle.sb_link.specs.Answers.{AreResolved, IsResolvedCall, copy_of, linked, linked_by, linked_call, resolved_args, stop_of}
 use Rattle.sb_link.specs.LinkedHistories.{Asked, IsLinkedHistory, LinkedHistory, all_answered, answered_by, answered_linked, new_linked}
 use Rattle.sb_link.specs.LinkedLaws.{IsScriptHistory, ScriptAnswersAreHistories, ScriptCallsAreResolved, WereRead}
-use Rattle.sb_link.specs.ScriptCalls.{asked_at, asked_by, asked_by_targets, asked_by_threads, asked_from, have_channels, is_encoded, is_encoded_target, is_encoded_thread, script_answered}
+use Rattle.sb_link.specs.ScriptCalls.{asked_at, asked_by, asked_by_statements, asked_of, can_be_asked, have_channels, is_encoded, script_answered}
 use Rattle.sb_link.specs.declared.links.Link.{Link}
 use Rattle.sb_link.specs.declared.stops.Stop.{Stop}
 use Rattle.sb_link.specs.declared.stops.Stop.TheVariants.{TooBig}
 use Rattle.sb_link.specs.declared.stops.StoppedCall.{StoppedCall}
 use Rattle.sb_link.proofs.Adding.{both}
-use Rattle.sb_link.proofs.Asking.{channel_there, few_targets, few_threads, one_policy_each, setting_stays, sound_has_channels, sound_is_encoded}
+use Rattle.sb_link.proofs.Asking.{all_can_be_asked, all_have_units, channel_there, setting_stays, sound_has_channels}
 use Rattle.sb_link.proofs.Linking.{entry_is_linked, stop_is_linked}
 use Rattle.sb_link.proofs.Logs.{links_stay}
 use Rattle.sb_link.proofs.Performed.{performed_calls_are_resolved}
@@ -123,36 +125,18 @@ module _ (setting : Setting) where
     statement_sound mark (Load t w) h u = tt
     statement_sound mark (Wait t w v most) h u = tt
 
-    thread_sound : (thread place : ℕ) (statements : List Statement) → list_all is_encoded statements ≡ true → thread_has_units statements ≡ true
-        → AreSound setting (asked_from target thread place statements)
-    thread_sound thread place [] h u = tt
-    thread_sound thread place (s ∷ more) h u =
-        let encoded = and_parts (is_encoded s) (list_all is_encoded more) h in
-        let units = and_parts (statement_has_units s) (thread_has_units more) u in
-        sound_append setting (asked_at target (mark_at thread place) s) (asked_from target thread (place + 1) more)
-        (statement_sound (mark_at thread place) s encoded.0 units.0) (thread_sound thread (place + 1) more encoded.1 units.1)
-
-    threads_sound : (thread : ℕ) (threads : List (List Statement)) → list_all is_encoded_thread threads ≡ true → list_all thread_has_units threads ≡ true
-        → AreSound setting (asked_by_threads target thread threads)
-    threads_sound thread [] h u = tt
-    threads_sound thread (statements ∷ more) h u =
-        let encoded = and_parts (is_encoded_thread statements) (list_all is_encoded_thread more) h in
-        let units = and_parts (thread_has_units statements) (list_all thread_has_units more) u in
-        let each = (and_parts (nat_le (length statements) 4096) (list_all is_encoded statements) encoded.0).1 in
-        sound_append setting (asked_from target thread 0 statements) (asked_by_threads target (thread + 1) more)
-        (thread_sound thread 0 statements each units.0) (threads_sound (thread + 1) more encoded.1 units.1)
-
-  targets_sound : have_channels setting ≡ true → (target : ℕ) (targets : List TargetScript) → target + length targets ≤ length setting.policies
-      → list_all is_encoded_target targets ≡ true → list_all target_has_units targets ≡ true → AreSound setting (asked_by_targets target targets)
-  targets_sound channels target [] few h u = tt
-  targets_sound channels target (x ∷ more) few h u =
-      let encoded = and_parts (is_encoded_target x) (list_all is_encoded_target more) h in
-      let units = and_parts (target_has_units x) (list_all target_has_units more) u in
-      let there : target < length setting.policies = omega (arith, few) in
-      let later : target + 1 + length more ≤ length setting.policies = omega (arith, few) in
-      sound_append setting (asked_by_threads target 0 x.threads) (asked_by_targets (target + 1) more)
-      (threads_sound target there (channel_there setting target channels there) 0 x.threads (few_threads x encoded.0).1 units.0)
-      (targets_sound channels (target + 1) more later encoded.1 units.1)
+  statements_sound : have_channels setting ≡ true → (ps : List Placed) → list_all (can_be_asked setting) ps ≡ true
+      → list_all (λ (p : Placed). statement_has_units p.statement) ps ≡ true → AreSound setting (asked_by_statements ps)
+  statements_sound channels [] h u = tt
+  statements_sound channels (p ∷ ps) h u =
+      let asked = and_parts (can_be_asked setting p) (list_all (can_be_asked setting) ps) h in
+      let units = and_parts (statement_has_units p.statement) (list_all (λ (q : Placed). statement_has_units q.statement) ps) u in
+      let parts = and_parts (nat_lt p.target (length setting.policies)) (is_encoded p.statement) asked.0 in
+      let low = parts.0 in
+      let there : p.target < length setting.policies = grind (arith, nat_tests, low) in
+      sound_append setting (asked_of p) (asked_by_statements ps)
+      (statement_sound p.target there (channel_there setting p.target channels there) (mark_at p.thread p.place) p.statement parts.1 units.0)
+      (statements_sound channels ps asked.1 units.1)
 
 ready_is_sound : (policies : List Policy) (script : Script) → IsReady policies script → is_sound script ≡ true
 ready_is_sound policies script ready =
@@ -162,12 +146,12 @@ ready_is_sound policies script ready =
     let b = and_parts made (list_all (is_judged (length policies)) script.targets) a.0 in
     (and_parts (is_sound script) (are_well_made policies) b.0).0
 
-script_sound : (policies : List Policy) (script : Script) → IsReady policies script → AreSound (setting_of policies script) (asked_by script)
-script_sound policies script ready =
+script_sound : PlacedStatementsAreSound → (policies : List Policy) (script : Script) → IsReady policies script → AreSound (setting_of policies script) (asked_by script)
+script_sound law policies script ready =
     let sound = ready_is_sound policies script ready in
-    let many = one_policy_each policies script in
-    targets_sound (setting_of policies script) (sound_has_channels policies script sound) 0 script.targets (omega (arith, many))
-    (few_targets script.targets (sound_is_encoded script sound)).1 ready.units
+    let placed = law script sound ready.units in
+    statements_sound (setting_of policies script) (sound_has_channels policies script sound) (placed_statements script)
+    (all_can_be_asked policies script (placed_statements script) placed) (all_have_units script (placed_statements script) placed)
 
 -- ---- the answers
 
@@ -175,7 +159,7 @@ script_sound policies script ready =
 abbrev IsKept : LinkedHistory → Type 0
 IsKept s = IsHistory s.history × IsLinkedHistory s
 
-module _ (keep : AnswersKeepHistories) (back : BlocksComeBack) (links : List Link) (read : WereRead links) where
+module _ (placed : PlacedStatementsAreSound) (keep : AnswersKeepHistories) (back : BlocksComeBack) (links : List Link) (read : WereRead links) where
   one_kept : (s : LinkedHistory) (a : Asked) → s.links ≡ links → IsSound s.history.setting a → IsKept s → IsKept (answered_linked s a.target a.channel a.taken)
   one_kept s a same sound kept = by (linked s.links a.taken) refl fine
     where
@@ -204,17 +188,17 @@ module _ (keep : AnswersKeepHistories) (back : BlocksComeBack) (links : List Lin
   pub script_kept : (policies : List Policy) (script : Script) → IsReady policies script → IsScriptHistory policies script links (script_answered policies script links)
   script_kept policies script ready =
       let s = new_linked links (setting_of policies script) in
-      let found = all_kept s (asked_by script) refl (script_sound policies script ready)
+      let found = all_kept s (asked_by script) refl (script_sound placed policies script ready)
       (record { legal = tt; led = refl }, record { logged = refl; resolved = tt }) in
       record { links_stay = links_stay s (asked_by script); setting_stays = found.1; history = found.0.0; linked = found.0.1 }
 
-pub script_answers_are_histories : AnswersKeepHistories → BlocksComeBack → ScriptAnswersAreHistories
-script_answers_are_histories keep back policies script links ready read = script_kept keep back links read policies script ready
+pub script_answers_are_histories : PlacedStatementsAreSound → AnswersKeepHistories → BlocksComeBack → ScriptAnswersAreHistories
+script_answers_are_histories placed keep back policies script links ready read = script_kept placed keep back links read policies script ready
 
-pub script_calls_are_resolved : AnswersKeepHistories → BlocksComeBack → EntriesSayWhatWasDone → ScriptCallsAreResolved
-script_calls_are_resolved keep back says policies script links ready read n e tag line action args there is =
+pub script_calls_are_resolved : PlacedStatementsAreSound → AnswersKeepHistories → BlocksComeBack → EntriesSayWhatWasDone → ScriptCallsAreResolved
+script_calls_are_resolved placed keep back says policies script links ready read n e tag line action args there is =
     let s = script_answered policies script links in
-    let kept = script_kept keep back links read policies script ready in
+    let kept = script_kept placed keep back links read policies script ready in
     let found = performed_calls_are_resolved says s n e tag line action args kept.history kept.linked there is in (
       subst (λ (x : Setting). IsAllowed (policy_at x.policies e.target) (call_of e.taken) tag line action args) kept.setting_stays found.0,
       subst (λ l. AreResolved l (shape_of tag) args) kept.links_stay found.1,

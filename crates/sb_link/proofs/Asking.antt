@@ -8,14 +8,16 @@ use Rattle.sb_block.specs.Copies.{Copied}
 use Rattle.sb_book.specs.Histories.{Setting, setting_of}
 use Rattle.sb_rule.specs.Verdicts.{policy_at}
 use Rattle.sb_rule.specs.declared.policies.Policy.{Policy}
+use Rattle.sb_statements.specs.PlacedStatements.{Placed, is_sound_in}
 use Rattle.sb_statements.specs.Soundness.{are_targets, is_patience, is_sound, is_start, is_statement, is_target, is_thread, names_differ}
+use Rattle.sb_statements.specs.Units.{statement_has_units}
 use Rattle.sb_statements.specs.declared.scripts.Script.{Script}
 use Rattle.sb_statements.specs.declared.scripts.TargetScript.{TargetScript}
 use Rattle.sb_statements.specs.declared.statements.Statement.{Statement}
 use Rattle.sb_statements.specs.declared.statements.Statement.TheVariants.{Call, Store, Exchange, Load, Wait}
 use Rattle.sb_link.specs.Answers.{linked}
 use Rattle.sb_link.specs.LinkedHistories.{Asked, LinkedHistory, all_answered, answered_by, answered_linked}
-use Rattle.sb_link.specs.ScriptCalls.{are_encoded, have_channels, is_encoded, is_encoded_target, is_encoded_thread}
+use Rattle.sb_link.specs.ScriptCalls.{can_be_asked, have_channels, is_encoded}
 use Rattle.sb_link.specs.declared.stops.StoppedCall.{StoppedCall}
 
 pub answers_join : (s : LinkedHistory) (a b : List Asked) → all_answered s (a ++ b) ≡ all_answered (all_answered s a) b
@@ -44,18 +46,6 @@ encoded_statement targets (Exchange t w from to) h = refl
 encoded_statement targets (Load t w) h = refl
 encoded_statement targets (Wait t w v most) h = refl
 
-encoded_thread : (targets : List TargetScript) (ss : List Statement) → is_thread targets ss ≡ true → is_encoded_thread ss ≡ true
-encoded_thread targets ss h =
-    let parts = and_parts (nat_le (length ss) 4096) (list_all (is_statement targets) ss) h in
-    rw (parts.0, all_by (is_statement targets) is_encoded (encoded_statement targets) ss parts.1) refl
-
-encoded_target : (targets : List TargetScript) (target : TargetScript) → is_target targets target ≡ true → is_encoded_target target ≡ true
-encoded_target targets target h =
-    let few = nat_le 1 target.channels && nat_le target.channels 8 in
-    let parts = and_parts (few && nat_le (length target.threads) 4) (list_all (is_thread targets) target.threads) h in
-    let low = and_parts few (nat_le (length target.threads) 4) parts.0 in
-    rw (low.1, all_by (is_thread targets) is_encoded_thread (encoded_thread targets) target.threads parts.1) refl
-
 -- the targets of a sound script
 targets_of : (script : Script) → is_sound script ≡ true → are_targets script.targets ≡ true
 targets_of script h =
@@ -67,39 +57,41 @@ each_target script h =
     let each = list_all (is_target script.targets) script.targets in
     (and_parts (nat_le (length script.targets) 8 && names_differ script.targets) each (targets_of script h)).1
 
-pub sound_is_encoded : (script : Script) → is_sound script ≡ true → are_encoded script.targets ≡ true
-sound_is_encoded script h =
-    let each = list_all (is_target script.targets) script.targets in
-    let parts = and_parts (nat_le (length script.targets) 8 && names_differ script.targets) each (targets_of script h) in
-    let low = and_parts (nat_le (length script.targets) 8) (names_differ script.targets) parts.0 in
-    rw (low.0, all_by (is_target script.targets) is_encoded_target (encoded_target script.targets) script.targets parts.1) refl
-
--- ---- limits
-
-pub few_threads : (target : TargetScript) → is_encoded_target target ≡ true → (length target.threads ≤ 4) × (list_all is_encoded_thread target.threads ≡ true)
-few_threads target h =
-    let parts = and_parts (nat_le (length target.threads) 4) (list_all is_encoded_thread target.threads) h in
-    let test = parts.0 in
-    let few : length target.threads ≤ 4 = grind (arith, nat_tests, test) in
-    (few, parts.1)
-
-pub few_targets : (targets : List TargetScript) → are_encoded targets ≡ true → (length targets ≤ 8) × (list_all is_encoded_target targets ≡ true)
-few_targets targets h =
-    let parts = and_parts (nat_le (length targets) 8) (list_all is_encoded_target targets) h in
-    let test = parts.0 in
-    let few : length targets ≤ 8 = grind (arith, nat_tests, test) in
-    (few, parts.1)
-
 -- ---- channels
 
 mapped_length : {X Y : Type 0} (f : X → Y) (xs : List X) → length (map f xs) ≡ length xs
 mapped_length f [] = refl
 mapped_length f (x ∷ xs) = omega (arith, mapped_length f xs)
 
-pub one_policy_each : (policies : List Policy) (script : Script) → length script.targets ≤ length (setting_of policies script).policies
+one_policy_each : (policies : List Policy) (script : Script) → length script.targets ≤ length (setting_of policies script).policies
 one_policy_each policies script =
     let e = mapped_length (λ (x : TargetScript). policy_at policies x.policy) script.targets in
     omega (arith, e)
+
+-- a statement whose target is one of a script's, and which is sound, can be asked
+sound_can_be_asked : (policies : List Policy) (script : Script) (p : Placed) → is_sound_in script.targets p ≡ true
+    → can_be_asked (setting_of policies script) p ≡ true
+sound_can_be_asked policies script p h =
+    let there = nat_lt p.target (length script.targets) in
+    let sound = is_statement script.targets p.statement in
+    let parts = and_parts (there && sound) (statement_has_units p.statement) h in
+    let both = and_parts there sound parts.0 in
+    let low = both.0 in
+    let many = one_policy_each policies script in
+    let within : nat_lt p.target (length (setting_of policies script).policies) ≡ true = grind (arith, nat_tests, low, many) in
+    rw (within, encoded_statement script.targets p.statement both.1) refl
+
+pub all_can_be_asked : (policies : List Policy) (script : Script) (ps : List Placed) → list_all (is_sound_in script.targets) ps ≡ true
+    → list_all (can_be_asked (setting_of policies script)) ps ≡ true
+all_can_be_asked policies script = all_by (is_sound_in script.targets) (can_be_asked (setting_of policies script)) (sound_can_be_asked policies script)
+
+sound_has_units : (targets : List TargetScript) (p : Placed) → is_sound_in targets p ≡ true → statement_has_units p.statement ≡ true
+sound_has_units targets p h =
+    (and_parts (nat_lt p.target (length targets) && is_statement targets p.statement) (statement_has_units p.statement) h).1
+
+pub all_have_units : (script : Script) (ps : List Placed) → list_all (is_sound_in script.targets) ps ≡ true
+    → list_all (λ (p : Placed). statement_has_units p.statement) ps ≡ true
+all_have_units script = all_by (is_sound_in script.targets) (λ (p : Placed). statement_has_units p.statement) (sound_has_units script.targets)
 
 channels_there : (targets xs : List TargetScript) → list_all (is_target targets) xs ≡ true → list_all (nat_lt 0) (map (λ (x : TargetScript). x.channels) xs) ≡ true
 channels_there targets [] h = refl
@@ -132,3 +124,12 @@ channel_there setting t h l =
     let test = parts.0 in
     let within : t < length setting.channels = grind (arith, nat_tests, test, l) in
     channel_in setting.channels t parts.1 within
+
+-- the first of statements that can be asked, and those after it
+pub asked_first : (setting : Setting) (p : Placed) (ps : List Placed) → list_all (can_be_asked setting) (p ∷ ps) ≡ true
+    → (p.target < length setting.policies) × (is_encoded p.statement ≡ true) × (list_all (can_be_asked setting) ps ≡ true)
+asked_first setting p ps h =
+    let all = and_parts (can_be_asked setting p) (list_all (can_be_asked setting) ps) h in
+    let first = and_parts (nat_lt p.target (length setting.policies)) (is_encoded p.statement) all.0 in
+    let low = first.0 in
+    (grind (arith, nat_tests, low), first.1, all.1)

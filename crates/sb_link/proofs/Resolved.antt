@@ -5,6 +5,7 @@ use Rattle.std.proofs.lemmas.Bool.{and_parts, false≢true}
 use Rattle.std.proofs.lemmas.List.{append_assoc, append-nil}
 use Rattle.sb_block.specs.Calls.{called, decoded}
 use Rattle.sb_block.specs.Copies.{Copied}
+use Rattle.sb_block.specs.declared.calls.Call.{Call}
 use Rattle.sb_call.specs.Arguments.{fit, fits, fits_kind}
 use Rattle.sb_call.specs.Tags.{shape_of}
 use Rattle.sb_call.specs.declared.arguments.Arg.{Arg}
@@ -13,8 +14,8 @@ use Rattle.sb_call.specs.declared.tags.CallTag.{CallTag}
 use Rattle.sb_call.specs.declared.tags.CallTag.TheVariants.{Ping, FileCreate, FileOpen, FileQuery, FileRename, PipeCreate, KeyCreate, KeyOpen, EventCreate, EventOpen, HandleClose}
 use Rattle.sb_call.specs.declared.tags.ParamKind.{ParamKind}
 use Rattle.sb_call.specs.declared.tags.ParamKind.TheVariants.{Text, Name, Num, Handle}
-use Rattle.sb_text.specs.Steps.{on_value}
-use Rattle.sb_link.specs.Answers.{AreResolved, IsResolvedArg, IsResolvedCall, resolved_arg, resolved_args, resolved_from}
+use Rattle.sb_text.specs.Steps.{◌>>=◌, on_value}
+use Rattle.sb_link.specs.Answers.{AreResolved, IsResolvedArg, IsResolvedCall, copy_of, resolved_arg, resolved_args, resolved_copy, resolved_from}
 use Rattle.sb_link.specs.Links.{AreLinks}
 use Rattle.sb_link.specs.Resolution.{resolve}
 use Rattle.sb_link.specs.declared.links.Link.{Link}
@@ -118,11 +119,10 @@ pub names_resolved : (links : List Link) (tag : CallTag) (args others : List Arg
     → resolved_args links tag args ≡ Ok others → AreResolved links (shape_of tag) others
 names_resolved links tag args others are h e = (all_pass links 0 (shape_of tag) args others are h e).1
 
--- a copy from which a call with resolved names comes back, if there is one
-pub copy_resolved : {E : Type 0} (links : List Link) (tag : CallTag) (mark : ℕ) (args : List Arg) (result : Result Copied E) → AreResolved links (shape_of tag) args
-    → IfOk result (λ copy. decoded copy ≡ Ok (called tag mark args)) → IfOk result (λ copy. IsResolvedCall links (decoded copy))
-copy_resolved links tag mark args (Ok copy) are back = subst (IsResolvedCall links) (sym back) are
-copy_resolved links tag mark args (Err stop) are back = tt
+-- the copy of a call whose arguments resolve to these
+pub resolved_then : (links : List Link) (call : Call) (args : List Arg) (copy : Copied) → resolved_args links call.tag call.args ≡ Ok args
+    → copy_of call.tag call.mark args ≡ Ok copy → resolved_copy links call ≡ Ok copy
+resolved_then links call args copy e f = ap (λ r. r >>= copy_of call.tag call.mark) e ∙ f
 
 -- ---- the loop that resolves arguments
 

@@ -1,5 +1,6 @@
 -- What becomes of a call when the names of its copy are resolved first.
-use Rattle.std.specs.Prelude.{◌≡◌, ⊤, ℕ, ◌+◌, nat_le, List, [], ◌∷◌, length, Option, None, Some, option_map, Result, Ok, Err, if◌then◌else◌}
+use Rattle.std.specs.Prelude.{◌≡◌, ⊤, true, ℕ, ◌+◌, nat_le, List, [], ◌∷◌, length, Option, None, Some, option_map, Result, Ok, Err, if◌then◌else◌}
+use Rattle.sb_call.specs.Arguments.{fits}
 use Rattle.sb_call.specs.Statuses.{path_not_found}
 use Rattle.sb_call.specs.Tags.{shape_of}
 use Rattle.sb_call.specs.declared.arguments.Arg.{Arg}
@@ -93,3 +94,8 @@ AreResolved links (kind ∷ kinds) (a ∷ args) = IsResolvedArg links kind a × 
 abbrev pub IsResolvedCall : List Link → Result Call BlockFault → Type 0
 IsResolvedCall links (Err fault) = ⊤
 IsResolvedCall links (Ok call) = AreResolved links (shape_of call.tag) call.args
+
+-- the arguments of a call fit it
+abbrev pub IsFittingCall : Result Call BlockFault → Type 0
+IsFittingCall (Err fault) = ⊤
+IsFittingCall (Ok call) = fits call.tag call.args ≡ true

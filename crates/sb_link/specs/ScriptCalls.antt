@@ -1,14 +1,13 @@
 -- The calls of a script, and the answers to all of them.
-use Rattle.std.specs.Prelude.{ℕ, ◌+◌, Bool, true, ◌&&◌, nat_le, nat_lt, List, [], ◌∷◌, ◌++◌, length}
-use Rattle.std.specs.List.{list_all}
+use Rattle.std.specs.Prelude.{ℕ, Bool, true, ◌&&◌, nat_le, nat_lt, List, [], ◌∷◌, length}
+use Rattle.std.specs.List.{flat_map, list_all}
 use Rattle.sb_actor.specs.Places.{mark_at}
 use Rattle.sb_block.specs.Blocks.{block, encodes}
 use Rattle.sb_block.specs.Copies.{whole}
 use Rattle.sb_book.specs.Histories.{Setting, setting_of}
 use Rattle.sb_rule.specs.declared.policies.Policy.{Policy}
-use Rattle.sb_statements.specs.Limits.{most_statements, most_targets, most_threads}
+use Rattle.sb_statements.specs.PlacedStatements.{Placed, placed_statements}
 use Rattle.sb_statements.specs.declared.scripts.Script.{Script}
-use Rattle.sb_statements.specs.declared.scripts.TargetScript.{TargetScript}
 use Rattle.sb_statements.specs.declared.statements.Statement.{Statement}
 use Rattle.sb_statements.specs.declared.statements.Statement.TheVariants.{Call, Store, Exchange, Load, Wait}
 use Rattle.sb_link.specs.LinkedHistories.{Asked, LinkedHistory, all_answered, new_linked}
@@ -22,24 +21,17 @@ asked_at target mark (Exchange t word from to) = []
 asked_at target mark (Load t word) = []
 asked_at target mark (Wait t word value most) = []
 
--- what the statements of a thread ask, the first of which is at this place. The mark of each call is that of its place
-abbrev pub asked_from : ℕ → ℕ → ℕ → List Statement → List Asked
-asked_from target thread place [] = []
-asked_from target thread place (statement ∷ more) = asked_at target (mark_at thread place) statement ++ asked_from target thread (place + 1) more
+-- what a statement asks, with the mark of its place
+abbrev pub asked_of : Placed → List Asked
+asked_of p = asked_at p.target (mark_at p.thread p.place) p.statement
 
--- what the threads of a target ask, the first of which has this number
-abbrev pub asked_by_threads : ℕ → ℕ → List (List Statement) → List Asked
-asked_by_threads target thread [] = []
-asked_by_threads target thread (statements ∷ more) = asked_from target thread 0 statements ++ asked_by_threads target (thread + 1) more
-
--- what targets ask, the first of which has this number
-abbrev pub asked_by_targets : ℕ → List TargetScript → List Asked
-asked_by_targets target [] = []
-asked_by_targets target (first ∷ more) = asked_by_threads target 0 first.threads ++ asked_by_targets (target + 1) more
+-- what these statements ask, in order
+abbrev pub asked_by_statements : List Placed → List Asked
+asked_by_statements statements = flat_map asked_of statements
 
 -- what a script asks, by target, thread and place
 abbrev pub asked_by : Script → List Asked
-asked_by script = asked_by_targets 0 script.targets
+asked_by script = asked_by_statements (placed_statements script)
 
 -- the history after the answers to all calls of a script under policies
 abbrev pub script_answered : List Policy → Script → List Link → LinkedHistory
@@ -55,17 +47,9 @@ is_encoded (Exchange t word from to) = true
 is_encoded (Load t word) = true
 is_encoded (Wait t word value most) = true
 
--- a thread has at most 4,096 statements, each of them such
-abbrev pub is_encoded_thread : List Statement → Bool
-is_encoded_thread statements = nat_le (length statements) most_statements && list_all is_encoded statements
-
--- a target has at most 4 threads, each of them such
-abbrev pub is_encoded_target : TargetScript → Bool
-is_encoded_target target = nat_le (length target.threads) most_threads && list_all is_encoded_thread target.threads
-
--- there are at most 8 targets, each of them such
-abbrev pub are_encoded : List TargetScript → Bool
-are_encoded targets = nat_le (length targets) most_targets && list_all is_encoded_target targets
+-- the target of a statement is one of a setting, and the statement encodes if it is a call
+abbrev pub can_be_asked : Setting → Placed → Bool
+can_be_asked setting p = nat_lt p.target (length setting.policies) && is_encoded p.statement
 
 -- each target of a setting has a channel
 abbrev pub have_channels : Setting → Bool

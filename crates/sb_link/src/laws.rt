@@ -82,6 +82,7 @@ pub fn script_calls_are_resolved()
     sb_block::blocks_come_back();
     sb_book::answers_keep_histories();
     sb_book::entries_say_what_was_done();
+    sb_statements::placed_statements_are_sound();
 }
 
 /// The text of links that can be written is read as these links.

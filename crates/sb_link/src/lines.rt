@@ -43,7 +43,7 @@ pub fn put_stopped_line(
 {
     put_place(line, name, channel, mark)?;
     line.push(b' ')?;
-    line.extend_from_slice(call_word(tag))?;
+    line.extend_from_slice(call_word(tag).as_bytes())?;
     line.push(b' ')?;
     put_stop(line, stop)?;
     line.push(b'\n')?;

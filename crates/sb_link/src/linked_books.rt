@@ -1,14 +1,18 @@
 // A book that resolves the names of each copy first.
 ghost use Rattle.std.specs.Prelude.{◌≡◌, ◌<◌, length, slice_index, IfOk, OnErr, OnOk};
+ghost use Rattle.sb_block.specs.Calls.{decoded};
 ghost use Rattle.sb_block.specs.Copies.{mark_of};
+ghost use Rattle.sb_book.specs.Decisions.{by_decoded};
 ghost use Rattle.sb_book.specs.Histories.{JudgesBy, answered, reply_of, setting_of, target_decision};
+ghost use Rattle.sb_rule.specs.Verdicts.{policy_at};
+ghost use Rattle.sb_link.specs.Answers.{IsFittingCall};
 ghost use Rattle.sb_link.specs.LinkedHistories.{IsLinkedHistory, answered_linked, linked_reply, new_linked};
 
 use crate::links::Links;
-use crate::stops::{Stop, link, stopped_reply};
+use crate::stops::{LinkedCopy, Stop, link, stopped_reply};
 use sb_base::{NoMemory, Refused};
-use sb_block::BlockCopy;
-use sb_book::{Book, RunStart, decide};
+use sb_block::{BlockCopy, BlockFault, Call};
+use sb_book::{Book, Decision, RunStart, decide_call};
 use sb_call::{CallTag, Reply};
 use sb_rule::Judge;
 use std::alloc::Global;
@@ -84,24 +88,38 @@ impl Model for LinkedBook {
     ghost invariant = { λ b. IsLinkedHistory (record { links = b.links; history = b.book; log = b.log.items }) };
 }
 
-// Decides on a copy and lets the book answer it. After an error the book is as it was.
+// Decides by the policy of a target on what a copy says.
+fn decide_linked<J: Judge>(judge: &J, target: u32, call: Result<Call, BlockFault>) -> Decision
+    requires target { target < length (J.policies judge.now) }
+    requires fits { IsFittingCall call }
+    ensures { result ≡ by_decoded (policy_at (J.policies judge.now) target) call }
+{
+    match call {
+        Ok(call) => decide_call(judge, target, call),
+        Err(fault) => Decision::Refused(fault),
+    }
+}
+
+// Decides on what a copy says and lets the book answer it. After an error the book is as it was.
 fn answer_copy<J: Judge>(
-    alloc: Global,
     book: &mut Book,
     judge: &J,
     target: u32,
     channel: u32,
-    copy: &BlockCopy,
+    linked: LinkedCopy,
 ) -> Result<Reply, NoMemory>
     requires target_there { target < length book.old.setting.policies }
     requires channel_there { channel < slice_index book.old.setting.channels target }
     requires judges { JudgesBy (J.policies judge.now) book.old }
-    ensures reply { IfOk result (λ r. r ≡ reply_of book.old.space target (mark_of copy.now) (target_decision book.old target copy.now)) }
-    ensures ok { OnOk result (book.new ≡ answered book.old target channel copy.now (target_decision book.old target copy.now)) }
+    requires call { decoded linked.copy ≡ linked.call }
+    requires fits { IsFittingCall linked.call }
+    ensures reply { IfOk result (λ r. r ≡ reply_of book.old.space target (mark_of linked.copy) (target_decision book.old target linked.copy)) }
+    ensures ok { OnOk result (book.new ≡ answered book.old target channel linked.copy (target_decision book.old target linked.copy)) }
     ensures err { OnErr result (book.new ≡ book.old) }
 {
-    let decision = decide(alloc, judge, target, copy)?;
-    book.answer(target, channel, copy, decision)
+    let LinkedCopy { copy, call } = linked;
+    let decision = decide_linked(judge, target, call);
+    book.answer(target, channel, &copy, decision)
 }
 
 impl LinkedBook {
@@ -141,9 +159,9 @@ impl LinkedBook {
     {
         self.log.reserve(1)?;
         match link(alloc, &self.links, taken) {
-            Ok(copy) => {
+            Ok(linked) => {
                 let at = self.book.entries().len();
-                let reply = answer_copy(alloc, &mut self.book, judge, target, channel, &copy)?;
+                let reply = answer_copy(&mut self.book, judge, target, channel, linked)?;
                 self.log.push_reserved(Linked::Entry {
                     taken: taken.copy(),
                     at,

@@ -1,11 +1,11 @@
 // Answers to the calls of a script.
-ghost use Rattle.std.specs.Prelude.{◌≡◌, ◌≤◌, ◌<◌, true, length, slice_index, IfOk, OnOk};
+ghost use Rattle.std.specs.Prelude.{◌≡◌, ◌<◌, true, length, slice_index, IfOk, OnOk};
 ghost use Rattle.std.specs.List.{list_all};
 ghost use Rattle.sb_block.specs.Blocks.{block, encodes};
 ghost use Rattle.sb_block.specs.Copies.{whole};
 ghost use Rattle.sb_book.specs.Histories.{JudgesBy, setting_of};
 ghost use Rattle.sb_link.specs.LinkedHistories.{all_answered};
-ghost use Rattle.sb_link.specs.ScriptCalls.{are_encoded, asked_at, asked_by_targets, asked_by_threads, asked_from, have_channels, is_encoded, is_encoded_target, is_encoded_thread, script_answered};
+ghost use Rattle.sb_link.specs.ScriptCalls.{asked_at, asked_by_statements, can_be_asked, have_channels, is_encoded, script_answered};
 
 use crate::linked_books::LinkedBook;
 use crate::links::Links;
@@ -15,7 +15,7 @@ use sb_block::{BlockCopy, encode};
 use sb_book::RunStart;
 use sb_call::{Arg, CallTag};
 use sb_rule::Judge;
-use sb_statements::{Statement, Statements, TargetScript};
+use sb_statements::{Statement, StatementCursor, placed_statements_are_sound};
 use std::alloc::Global;
 
 // The copy of the whole block of a call that encodes.
@@ -61,86 +61,23 @@ fn answer_statement<J: Judge>(
     }
 }
 
-// Answers the calls of a thread, in order.
-#[tactic(auto, using(crate::proofs::Asking::answers_join))]
-fn answer_thread<J: Judge>(
+// Answers the calls of these statements, in order.
+#[tactic(auto, using(crate::proofs::Asking::answers_join, crate::proofs::Asking::asked_first, crate::proofs::Asking::channel_there))]
+fn answer_statements<J: Judge>(
     alloc: Global,
     book: &mut LinkedBook,
     judge: &J,
-    target: u32,
-    thread: u32,
-    statements: &[Statement],
+    statements: StatementCursor<'_>,
 ) -> Result<(), NoMemory>
-    requires target_there { target < length book.old.history.setting.policies }
-    requires channel_there { 0 < slice_index book.old.history.setting.channels target }
-    requires judges { JudgesBy (J.policies judge.now) book.old.history }
-    requires encoded { is_encoded_thread statements.now ≡ true }
-    ensures answered { OnOk result (book.new ≡ all_answered book.old (asked_from target thread 0 statements.now)) }
-    ensures setting { OnOk result (book.new.history.setting ≡ book.old.history.setting) }
-{
-    let mut place = 0;
-    let mut rest = statements;
-    while let Some((statement, later)) = rest.split_first() {
-        answer_statement(
-            alloc,
-            book,
-            judge,
-            target,
-            mark_at(thread, place),
-            statement,
-        )?;
-        place += 1;
-        rest = later;
-    }
-    Ok(())
-}
-
-// Answers the calls of the threads of a target, in order.
-#[tactic(auto, using(crate::proofs::Asking::answers_join))]
-fn answer_threads<J: Judge>(
-    alloc: Global,
-    book: &mut LinkedBook,
-    judge: &J,
-    target: u32,
-    threads: &[Statements],
-) -> Result<(), NoMemory>
-    requires target_there { target < length book.old.history.setting.policies }
-    requires channel_there { 0 < slice_index book.old.history.setting.channels target }
-    requires judges { JudgesBy (J.policies judge.now) book.old.history }
-    requires few { length threads.now ≤ 4 }
-    requires encoded { list_all is_encoded_thread threads.now ≡ true }
-    ensures answered { OnOk result (book.new ≡ all_answered book.old (asked_by_threads target 0 threads.now)) }
-    ensures setting { OnOk result (book.new.history.setting ≡ book.old.history.setting) }
-{
-    let mut thread = 0;
-    let mut rest = threads;
-    while let Some((statements, later)) = rest.split_first() {
-        answer_thread(alloc, book, judge, target, thread, statements.as_slice())?;
-        thread += 1;
-        rest = later;
-    }
-    Ok(())
-}
-
-// Answers the calls of targets, in order.
-#[tactic(auto, using(crate::proofs::Asking::answers_join, crate::proofs::Asking::channel_there, crate::proofs::Asking::few_threads, crate::proofs::Asking::few_targets))]
-fn answer_targets<J: Judge>(
-    alloc: Global,
-    book: &mut LinkedBook,
-    judge: &J,
-    targets: &[TargetScript],
-) -> Result<(), NoMemory>
-    requires there { length targets.now ≤ length book.old.history.setting.policies }
     requires channels { have_channels book.old.history.setting ≡ true }
     requires judges { JudgesBy (J.policies judge.now) book.old.history }
-    requires encoded { are_encoded targets.now ≡ true }
-    ensures { OnOk result (book.new ≡ all_answered book.old (asked_by_targets 0 targets.now)) }
+    requires asked { list_all (can_be_asked book.old.history.setting) statements ≡ true }
+    ensures { OnOk result (book.new ≡ all_answered book.old (asked_by_statements statements.entry)) }
 {
-    let mut target = 0;
-    let mut rest = targets;
-    while let Some((script, later)) = rest.split_first() {
-        answer_threads(alloc, book, judge, target, script.threads.as_slice())?;
-        target += 1;
+    let mut rest = statements;
+    while let Some((first, later)) = rest.split_first() {
+        let mark = mark_at(first.thread, first.place);
+        answer_statement(alloc, book, judge, first.target, mark, first.statement)?;
         rest = later;
     }
     Ok(())
@@ -151,7 +88,6 @@ fn answer_targets<J: Judge>(
 ///
 /// # Errors
 /// `NoMemory` if there was none for the answers.
-#[tactic(auto, using(crate::proofs::Asking::one_policy_each))]
 pub fn answer_script<J: Judge>(
     alloc: Global,
     judge: &J,
@@ -162,8 +98,9 @@ pub fn answer_script<J: Judge>(
     ensures { IfOk result (λ book. book ≡ script_answered start.entry.policies start.entry.script links) }
 {
     let script = start.ready().script();
+    placed_statements_are_sound();
     script.establish_sound();
     let mut book = LinkedBook::new(alloc, start, links);
-    answer_targets(alloc, &mut book, judge, script.targets.as_slice())?;
+    answer_statements(alloc, &mut book, judge, script.statements())?;
     Ok(book)
 }

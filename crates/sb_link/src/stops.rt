@@ -2,12 +2,12 @@
 ghost use Rattle.std.specs.Prelude.{◌≡◌, ◌<◌, ◌^◌, IfOk, Ok, length, true};
 ghost use Rattle.sb_block.specs.Calls.{called, decoded};
 ghost use Rattle.sb_call.specs.Arguments.{fits};
-ghost use Rattle.sb_base.specs.Refusals.{Gives};
-ghost use Rattle.sb_link.specs.Answers.{IsResolvedCall, copy_of, linked, resolved_arg, resolved_copy, resolved_from, stopped_reply};
+ghost use Rattle.sb_base.specs.Refusals.{Gives, GivesAs};
+ghost use Rattle.sb_link.specs.Answers.{IsFittingCall, IsResolvedCall, copy_of, linked, resolved_arg, resolved_copy, resolved_from, stopped_reply};
 
 use crate::links::Links;
 use sb_base::{NoMemory, Refused};
-use sb_block::{BlockCopy, BlockRefused, Call, decode, encode};
+use sb_block::{BlockCopy, BlockFault, BlockRefused, Call, decode, encode};
 use sb_call::{Arg, Args, CallTag, Extended, PATH_NOT_FOUND, ParamKind, Reply, shape};
 use std::alloc::Global;
 
@@ -27,6 +27,15 @@ pub struct StoppedCall {
     pub tag: CallTag,
     /// Why it stops.
     pub stop: Stop,
+}
+
+/// A copy whose names are resolved, with what it says: its call, or its first fault.
+#[derive(Drop)]
+pub(crate) struct LinkedCopy {
+    /// The copy.
+    pub(crate) copy: BlockCopy,
+    /// Its call, or its first fault.
+    pub(crate) call: Result<Call, BlockFault>,
 }
 
 // An argument of a kind: a name as what it resolves to, None if it does not, and any other as it is.
@@ -92,19 +101,30 @@ fn copy_of(tag: CallTag, mark: u64, args: &[Arg]) -> Result<BlockCopy, Refused<S
     }
 }
 
-// The copy of a call whose names are resolved.
-#[tactic(auto, using(crate::proofs::Resolved::shapes_are_short, crate::proofs::Resolved::resolved_fit))]
-fn link_call(alloc: Global, links: &Links, call: &Call) -> Result<BlockCopy, Refused<Stop>>
+// A call whose names are resolved, and the copy of its whole block.
+#[tactic(auto, using(crate::proofs::Resolved::shapes_are_short, crate::proofs::Resolved::resolved_fit, crate::proofs::Resolved::names_resolved))]
+fn link_call(alloc: Global, links: &Links, call: &Call) -> Result<LinkedCopy, Refused<Stop>>
     requires { fits call.now.tag call.now.args ≡ true }
-    ensures copy { Gives (resolved_copy links.now call.now) result }
-    ensures resolved { IfOk result (λ copy. IsResolvedCall links.now (decoded copy)) }
+    ensures copy { GivesAs (λ linked. linked.copy) (resolved_copy links.now call.now) result }
+    ensures call { IfOk result (λ linked. decoded linked.copy ≡ linked.call) }
+    ensures fits { IfOk result (λ linked. IsFittingCall linked.call) }
+    ensures resolved { IfOk result (λ linked. IsResolvedCall links.now linked.call) }
 {
     links.establish_links();
     let args = resolve_from(alloc, links, shape(call.tag), call.args.as_slice())?;
-    copy_of(call.tag, call.mark, args.as_slice())
+    let copy = copy_of(call.tag, call.mark, args.as_slice())?;
+    let call = Call {
+        tag: call.tag,
+        mark: call.mark,
+        args,
+    };
+    Ok(LinkedCopy {
+        copy,
+        call: Ok(call),
+    })
 }
 
-/// The copy with its names resolved; a copy with a fault stays as it is.
+/// The copy with its names resolved, and its call; a copy with a fault stays as it is.
 ///
 /// # Errors
 /// `Fault` exactly if a name of the call does not resolve, or its block with the names resolved needs more than 64 words. `NoMemory`
@@ -113,17 +133,24 @@ pub(crate) fn link(
     alloc: Global,
     links: &Links,
     taken: &BlockCopy,
-) -> Result<BlockCopy, Refused<StoppedCall>>
-    ensures copy { Gives (linked links.now taken.now) result }
-    ensures resolved { IfOk result (λ copy. IsResolvedCall links.now (decoded copy)) }
+) -> Result<LinkedCopy, Refused<StoppedCall>>
+    ensures copy { GivesAs (λ linked. linked.copy) (linked links.now taken.now) result }
+    ensures call { IfOk result (λ linked. decoded linked.copy ≡ linked.call) }
+    ensures fits { IfOk result (λ linked. IsFittingCall linked.call) }
+    ensures resolved { IfOk result (λ linked. IsResolvedCall links.now linked.call) }
 {
     let call = match decode(alloc, taken) {
         Ok(call) => call,
-        Err(BlockRefused::Fault(_)) => return Ok(taken.copy()),
+        Err(BlockRefused::Fault(fault)) => {
+            return Ok(LinkedCopy {
+                copy: taken.copy(),
+                call: Err(fault),
+            });
+        }
         Err(BlockRefused::NoMemory) => return Err(Refused::NoMemory),
     };
     match link_call(alloc, links, &call) {
-        Ok(copy) => Ok(copy),
+        Ok(linked) => Ok(linked),
         Err(Refused::Fault(stop)) => Err(Refused::Fault(StoppedCall {
             tag: call.tag,
             stop,

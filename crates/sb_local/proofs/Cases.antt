@@ -15,7 +15,8 @@ use Rattle.sb_statements.specs.declared.scripts.Script.{Script}
 use Rattle.sb_statements.specs.declared.statements.Statement.{Statement}
 use Rattle.sb_statements.specs.declared.statements.Statement.TheVariants.{Call, Load}
 use Rattle.sb_local.specs.Lines.{denial_line}
-use Rattle.sb_local.specs.Thinning.{denied_from, kept_from, thin, thin_thread}
+use Rattle.sb_local.specs.Thinning.{kept_from, thin, thin_thread}
+use Rattle.sb_local.proofs.Denied.{denied_from}
 
 -- a rule without conditions
 abbrev rule : CallTag → Action → ℕ → Rule

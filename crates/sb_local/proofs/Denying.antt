@@ -21,7 +21,8 @@ use Rattle.sb_statements.specs.declared.statements.Statement.{Statement}
 use Rattle.sb_statements.specs.declared.statements.Statement.TheVariants.{Call, Store, Exchange, Load, Wait}
 use Rattle.sb_local.specs.Denials.{denial_of, if_denial, is_local_denial}
 use Rattle.sb_local.specs.Laws.{DenialsAreDecisions}
-use Rattle.sb_local.specs.Thinning.{denial_at, denied_from, denied_in_targets, denied_in_threads}
+use Rattle.sb_local.specs.Denials.{denial_at}
+use Rattle.sb_local.proofs.Denied.{denied_from, denied_in_targets, denied_in_threads, script_denials}
 use Rattle.sb_local.specs.declared.denials.LocalDenial.{LocalDenial}
 use Rattle.sb_local.proofs.Sound.{one_of_all}
 
@@ -222,7 +223,9 @@ block_is_denied back policy targets tag args mark sound units local =
 
 pub denials_are_decisions : SoundTargets → SoundStatements → BlocksComeBack → DenialsAreDecisions
 denials_are_decisions targets statements back policies script n d h e =
-    let f = from_targets policies script.targets 0 n d e in
+    let nested : slice_get (denied_in_targets policies 0 script.targets) n ≡ Some d =
+    subst (λ (ds : List LocalDenial). slice_get ds n ≡ Some d) (script_denials policies script) e in
+    let f = from_targets policies script.targets 0 n d nested in
     let at : d.target ≡ f.m = omega (arith, f.target) in
     let x_there : slice_get script.targets d.target ≡ Some f.x = ap (λ i. slice_get script.targets i) at ∙ f.target_there in
     let c = denied_call (policy_at policies d.target) f.s (d.tag, d.verdict) f.denied in

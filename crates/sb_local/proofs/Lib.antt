@@ -1,9 +1,9 @@
 pub mod Cases
+pub mod Denied
 pub mod Denying
 pub mod OneThread
 pub mod Places
 pub mod Serially
 pub mod Sound
 pub mod Staying
-pub mod Whole
 pub mod LeftOut

@@ -12,7 +12,9 @@ use Rattle.sb_statements.specs.declared.statements.Statement.TheVariants.{Call}
 use Rattle.sb_local.specs.Denials.{denial_of, is_local_denial}
 use Rattle.sb_local.specs.Laws.{EachIsSentOrDenied, SentCallsAreForTheBroker, StatementsHadTheirPlaces, old_place}
 use Rattle.sb_local.specs.declared.denials.LocalDenial.{LocalDenial}
-use Rattle.sb_local.specs.Thinning.{denial_at, denied_from, denied_in_targets, denied_in_threads, kept_from, kept_in_targets, place_if_kept, statement_if_kept, thin_targets, thin_thread}
+use Rattle.sb_local.specs.Denials.{denial_at}
+use Rattle.sb_local.specs.Thinning.{kept_from, kept_in_targets, place_if_kept, statement_if_kept, thin_targets, thin_thread}
+use Rattle.sb_local.proofs.Denied.{denied_from, denied_in_targets, denied_in_threads, script_denials}
 
 pub plus_zero : (i : ℕ) → i + 0 ≡ i
 plus_zero i = omega arith
@@ -166,7 +168,8 @@ pub each_is_sent_or_denied : EachIsSentOrDenied
 each_is_sent_or_denied policies script t k i s h =
     ⊎_elim
     (λ a. inl a)
-    (λ b. inr (subst (λ n. Has (denied_in_targets policies 0 script.targets) n k i) (zero_plus t) b))
+    (λ b. inr (subst (λ (ds : List LocalDenial). Has ds t k i) (sym (script_denials policies script))
+    (subst (λ n. Has (denied_in_targets policies 0 script.targets) n k i) (zero_plus t) b)))
     (each_in_targets policies script.targets 0 t k i s h)
 
 -- No call that is sent is one that its target may deny itself.

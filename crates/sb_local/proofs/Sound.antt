@@ -1,5 +1,5 @@
 -- A thinned script is sound, and ready where the script was.
-use Rattle.std.proofs.Common.{◌≡◌, refl, sym, ap, subst, ℕ, zero, suc, ◌+◌, ◌++◌, ◌≤◌, List, [], ◌∷◌, Bool, true, ◌&&◌, ◌||◌, length, map, Option, None, Some, arith}
+use Rattle.std.proofs.Common.{◌≡◌, ◌∙◌, refl, sym, ap, subst, ℕ, zero, suc, ◌+◌, ◌++◌, ◌≤◌, List, [], ◌∷◌, Bool, true, ◌&&◌, ◌||◌, length, map, Option, None, Some, arith}
 use Rattle.std.proofs.lemmas.Bool.{and_parts}
 use Rattle.std.proofs.lemmas.Bool.Decides.{nat_tests}
 use Rattle.std.specs.Prelude.{nat_le, nat_eq, is_ok, slice_get}
@@ -17,6 +17,7 @@ use Rattle.sb_statements.specs.SoundScripts.{IsSoundScript, has_short_name, has_
 use Rattle.sb_statements.specs.Soundness.{are_targets, channels_of, is_patience, is_sound, is_start, is_statement, is_target, is_thread, names_differ}
 use Rattle.sb_statements.specs.Units.{script_has_units, statement_has_units, target_has_units, thread_has_units}
 use Rattle.sb_statements.specs.declared.scripts.Script.{Script}
+use Rattle.sb_statements.specs.declared.scripts.StartLine.{StartLine}
 use Rattle.sb_statements.specs.declared.scripts.TargetScript.{TargetScript}
 use Rattle.sb_statements.specs.declared.statements.Statement.{Statement}
 use Rattle.sb_statements.specs.declared.statements.Statement.TheVariants.{Call, Store, Exchange, Load, Wait}
@@ -38,7 +39,7 @@ all_by p q f (x ∷ xs) h =
     let parts = and_parts (p x) (list_all p xs) h in
     rw (f x parts.0) (all_by p q f xs parts.1)
 
-fitting_call : (targets : List TargetScript) (s : Statement) → is_statement targets s ≡ true → fits_its_call s ≡ true
+pub fitting_call : (targets : List TargetScript) (s : Statement) → is_statement targets s ≡ true → fits_its_call s ≡ true
 fitting_call targets (Call tag args) h = (and_parts (fits tag args) _ h).0
 fitting_call targets (Store t w v) h = refl
 fitting_call targets (Exchange t w from to) h = refl
@@ -48,14 +49,13 @@ fitting_call targets (Wait t w v most) h = refl
 fitting_thread : (targets : List TargetScript) (ss : List Statement) → is_thread targets ss ≡ true → fits_in_thread ss ≡ true
 fitting_thread targets ss h =
     let parts = and_parts (nat_le (length ss) 4096) (list_all (is_statement targets) ss) h in
-    rw (parts.0, all_by (is_statement targets) fits_its_call (fitting_call targets) ss parts.1) refl
+    all_by (is_statement targets) fits_its_call (fitting_call targets) ss parts.1
 
 fitting_target : (targets : List TargetScript) (target : TargetScript) → is_target targets target ≡ true → fits_in_target target ≡ true
 fitting_target targets target h =
     let few = nat_le 1 target.channels && nat_le target.channels 8 in
     let parts = and_parts (few && nat_le (length target.threads) 4) (list_all (is_thread targets) target.threads) h in
-    let low = and_parts few (nat_le (length target.threads) 4) parts.0 in
-    rw (low.1, all_by (is_thread targets) fits_in_thread (fitting_thread targets) target.threads parts.1) refl
+    all_by (is_thread targets) fits_in_thread (fitting_thread targets) target.threads parts.1
 
 -- the targets of a sound script
 pub targets_of : (script : Script) → is_sound script ≡ true → are_targets script.targets ≡ true
@@ -193,10 +193,17 @@ whole_is_sound policies script h u n = record {
   short = thinned_short policies script n;
 }
 
--- the thinned script keeps what is known of a sound script
-pub thinned_is_sound : (policies : List Policy) (script made : Script) → made ≡ (thin policies script).script → is_sound script ≡ true
-    → script_has_units script ≡ true → has_short_names script ≡ true → IsSoundScript made
-thinned_is_sound policies script made e h u n = subst (λ s. IsSoundScript s) (sym e) (whole_is_sound policies script h u n)
+-- a script with the targets thinned, and with what the script has beside them, keeps what is known of a sound script
+pub thinned_is_sound : (policies : List Policy) (script : Script) (patience : ℕ) (start : List StartLine) (targets : List TargetScript)
+    → patience ≡ script.patience → start ≡ script.start → targets ≡ thin_targets policies 0 script.targets
+    → is_sound script ≡ true → script_has_units script ≡ true → has_short_names script ≡ true
+    → IsSoundScript (record { patience = patience; start = start; targets = targets })
+thinned_is_sound policies script patience start targets p e f h u n =
+    let made : record { patience = patience; start = start; targets = targets } ≡ (thin policies script).script =
+    ap (λ (q : ℕ). record { patience = q; start = start; targets = targets }) p
+    ∙ ap (λ (s : List StartLine). record { patience = script.patience; start = s; targets = targets }) e
+    ∙ ap (λ (ts : List TargetScript). record script { targets = ts }) f in
+    subst (λ (s : Script). IsSoundScript s) (sym made) (whole_is_sound policies script h u n)
 
 judged_stays : (count : ℕ) (policy : Policy) (x : TargetScript) → is_judged count x ≡ true → is_judged count (thin_target policy x) ≡ true
 judged_stays count policy x h = h

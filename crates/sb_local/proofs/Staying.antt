@@ -16,7 +16,9 @@ use Rattle.sb_statements.specs.declared.statements.Statement.{Statement}
 use Rattle.sb_statements.specs.declared.statements.Statement.TheVariants.{Call, Store, Exchange, Load, Wait}
 use Rattle.sb_local.specs.Denials.{denial_of}
 use Rattle.sb_local.specs.Laws.{ActorsStay, CleanChannelsStay, SettingsStay, ThinnedScriptsAreReady, ThinnedScriptsAreSound, ThinningAgainChangesNothing}
-use Rattle.sb_local.specs.Thinning.{denial_at, denied_from, denied_in_targets, denied_in_threads, statement_if_kept, thin_target, thin_targets, thin_thread}
+use Rattle.sb_local.specs.Denials.{denial_at}
+use Rattle.sb_local.specs.Thinning.{statement_if_kept, thin, thin_target, thin_targets, thin_thread}
+use Rattle.sb_local.proofs.Denied.{denied_from, denied_in_targets, denied_in_threads, script_denials}
 use Rattle.sb_local.proofs.Sound.{thinned_is_ready, thinned_length, thinned_short, thinned_sound, thinned_units}
 
 pub sound_stays : ThinnedScriptsAreSound
@@ -121,8 +123,10 @@ targets_deny_none policies t [] = refl
 targets_deny_none policies t (x ∷ xs) = rw (threads_deny_none (policy_at policies t) t 0 x.threads) (targets_deny_none policies (t + 1) xs)
 
 pub nothing_again : ThinningAgainChangesNothing
-nothing_again policies script =
-    (ap (λ xs. record script { targets = xs }) (targets_again policies 0 script.targets), targets_deny_none policies 0 script.targets)
+nothing_again policies script = (
+  ap (λ xs. record script { targets = xs }) (targets_again policies 0 script.targets),
+  script_denials policies (thin policies script).script ∙ targets_deny_none policies 0 script.targets,
+)
 
 mapped_length : {X Y : Type 0} (f : X → Y) (xs : List X) → length (map f xs) ≡ length xs
 mapped_length f [] = refl

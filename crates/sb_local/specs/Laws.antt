@@ -22,9 +22,8 @@ use Rattle.sb_statements.specs.declared.statements.Statement.{Statement}
 use Rattle.sb_statements.specs.declared.statements.Statement.TheVariants.{Call}
 use Rattle.sb_local.specs.Denials.{is_local_denial}
 use Rattle.sb_local.specs.Serial.{HasOneThread, serial}
-use Rattle.sb_local.specs.Thinning.{thin}
+use Rattle.sb_local.specs.Thinning.{Thinned, thin}
 use Rattle.sb_local.specs.declared.denials.LocalDenial.{LocalDenial}
-use Rattle.sb_local.specs.declared.thinning.Thinned.{Thinned}
 
 -- each local denial is of the call at its place, and is what the policy of its target decides on the whole block of the call, with any mark
 abbrev pub DenialsAreDecisions : Type 0

@@ -5,13 +5,12 @@ use Rattle.sb_call.specs.declared.tags.CallTag.{CallTag}
 use Rattle.sb_rule.specs.Verdicts.{policy_at}
 use Rattle.sb_rule.specs.declared.policies.Policy.{Policy}
 use Rattle.sb_rule.specs.declared.verdicts.Verdict.{Verdict}
-use Rattle.sb_statements.specs.Limits.{most_targets, most_threads, most_statements}
+use Rattle.sb_statements.specs.Limits.{most_targets}
 use Rattle.sb_statements.specs.declared.scripts.Script.{Script}
 use Rattle.sb_statements.specs.declared.scripts.TargetScript.{TargetScript}
 use Rattle.sb_statements.specs.declared.statements.Statement.{Statement}
-use Rattle.sb_local.specs.Denials.{denial_of, fits_its_call}
+use Rattle.sb_local.specs.Denials.{denial_of, denials, fits_its_call}
 use Rattle.sb_local.specs.declared.denials.LocalDenial.{LocalDenial}
-use Rattle.sb_local.specs.declared.thinning.Thinned.{Thinned}
 
 -- a statement that is sent
 abbrev pub statement_if_kept : Statement → Option (CallTag × Verdict) → List Statement
@@ -51,43 +50,29 @@ abbrev pub kept_in_targets : List Policy → ℕ → List TargetScript → List 
 kept_in_targets policies t [] = []
 kept_in_targets policies t (target ∷ more) = kept_in_target (policy_at policies t) target ∷ kept_in_targets policies (t + 1) more
 
--- a call of a thread that its target denies itself
-abbrev pub denial_at : ℕ → ℕ → ℕ → Option (CallTag × Verdict) → List LocalDenial
-denial_at t k i None = []
-denial_at t k i (Some denial) = record { target = t; thread = k; place = i; tag = denial.0; verdict = denial.1 } ∷ []
+-- What is sent of a script, at which place of its thread each statement of that was before, by target and thread, and the calls that are denied, by
+-- target, thread and place
+pub record Thinned : Type 0 where
+  pub script : Script
+  pub kept : List (List (List ℕ))
+  pub denied : List LocalDenial
 
--- the calls of a thread that its target denies itself, in order, the first statement being at this place
-abbrev pub denied_from : Policy → ℕ → ℕ → ℕ → List Statement → List LocalDenial
-denied_from policy t k i [] = []
-denied_from policy t k i (statement ∷ more) = denial_at t k i (denial_of policy statement) ++ denied_from policy t k (i + 1) more
-
--- those of the threads of a target, of which the first has this number
-abbrev pub denied_in_threads : Policy → ℕ → ℕ → List (List Statement) → List LocalDenial
-denied_in_threads policy t k [] = []
-denied_in_threads policy t k (statements ∷ more) = denied_from policy t k 0 statements ++ denied_in_threads policy t (k + 1) more
-
--- and those of targets, of which the first has this number
-abbrev pub denied_in_targets : List Policy → ℕ → List TargetScript → List LocalDenial
-denied_in_targets policies t [] = []
-denied_in_targets policies t (target ∷ more) =
-    denied_in_threads (policy_at policies t) t 0 target.threads ++ denied_in_targets policies (t + 1) more
-
--- a script under a policy for each target: what is sent, at which place each statement of that was, and the calls that are denied
+-- a script under a policy for each target, thinned
 abbrev pub thin : List Policy → Script → Thinned
 thin policies script = record {
   script = record script { targets = thin_targets policies 0 script.targets };
   kept = kept_in_targets policies 0 script.targets;
-  denied = denied_in_targets policies 0 script.targets;
+  denied = denials policies script;
 }
 
--- a thread has at most 4,096 statements, and the arguments of its calls fit
+-- the arguments of the calls of a thread fit
 abbrev pub fits_in_thread : List Statement → Bool
-fits_in_thread statements = nat_le (length statements) most_statements && list_all fits_its_call statements
+fits_in_thread statements = list_all fits_its_call statements
 
--- a target has at most 4 such threads
+-- and those of all threads of a target
 abbrev pub fits_in_target : TargetScript → Bool
-fits_in_target target = nat_le (length target.threads) most_threads && list_all fits_in_thread target.threads
+fits_in_target target = list_all fits_in_thread target.threads
 
--- what thinning needs of targets: they are at most 8, and so are theirs
+-- what thinning needs of targets: they are at most 8, and the arguments of their calls fit
 abbrev pub fits_in_targets : List TargetScript → Bool
 fits_in_targets targets = nat_le (length targets) most_targets && list_all fits_in_target targets

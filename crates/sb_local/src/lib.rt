@@ -17,4 +17,3 @@ pub use laws::{
 };
 pub use lines::denial_lines;
 pub use sending::SentScript;
-pub use thinning::{Places, Thinned, make_ready, thin};

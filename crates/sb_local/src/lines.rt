@@ -28,7 +28,7 @@ fn put_denial(lines: &mut Vec<u8>, script: &Script, denial: &LocalDenial) -> Res
     lines.extend_from_slice(b"local ")?;
     lines.extend_from_slice(script.target_name(denial.target as usize))?;
     put_place(lines, denial.thread, denial.place)?;
-    lines.extend_from_slice(call_word(denial.tag))?;
+    lines.extend_from_slice(call_word(denial.tag).as_bytes())?;
     put_verdict(lines, denial.verdict)?;
     lines.push(b'\n')?;
     Ok(())

@@ -9,12 +9,12 @@ use Rattle.sb_actor.specs.declared.acts.Act.TheVariants as act
 use Rattle.sb_book.specs.Histories.{History}
 use Rattle.sb_shared.specs.Laws.{Laws}
 use Rattle.sb_shared.specs.Parts.{missed_view, taken_view}
-use Rattle.sb_shared.specs.Plays.{Gave, Marked, Placed, Tried}
+use Rattle.sb_shared.specs.Plays.{Gave, HasAnswered, Placed, Tried}
 use Rattle.sb_shared.specs.Rule.{Holds, Slot, turn_word}
 use Rattle.sb_shared.specs.Seats.{IsWorker, Lies, WorkerIn, worker_in, worker_part}
 use Rattle.sb_shared.specs.declared.views.Origin.{Origin}
 use Rattle.sb_shared.specs.declared.views.Part.TheVariants as part
-use Rattle.sb_shared.proofs.Turning.{try_allowed, mark_allowed, give_allowed}
+use Rattle.sb_shared.proofs.Turning.{try_allowed, answer_allowed, give_allowed}
 
 pub lies_holding : (b : Option History) (book : History) (slots : List (ℕ × Slot)) → b ≡ Some book → Lies b slots → slots ≡ (0, None) ∷ []
 lies_holding b book slots e l = subst (λ z. Lies z slots) e l
@@ -35,9 +35,9 @@ module _ (laws : Laws) (key : Origin) (slots id : ℕ) (me : Placed) (is : IsWor
   holding : (book : History) → here.book ≡ Some book → me.0.parts ≡ part.Worker here.target here.state (Some book) ∷ []
   holding book e = one ∙ ap (λ (b : Option History). part.Worker here.target here.state b ∷ []) e
 
-  pub mark_allowed_at : (book : History) → worker_plan here.state ≡ act.Answer → here.book ≡ Some book
-      → Allows (Holds key) slots id me turn_word (λ n. n) (Marked (step slots turn_word 0 0 raw.none) me)
-  mark_allowed_at book plan has = mark_allowed laws key slots id me.0 me.1 here.target here.state book (holding book has) plan
+  pub answer_allowed_at : (book : History) → worker_plan here.state ≡ act.Answer → here.book ≡ Some book
+      → Allows (Holds key) slots id me turn_word (λ n. n) (HasAnswered (step slots turn_word 0 0 raw.none) me)
+  answer_allowed_at book plan has = answer_allowed laws key slots id me.0 me.1 here.target here.state book (holding book has) plan
 
   pub give_allowed_at : (book : History) → worker_plan here.state ≡ act.Give → here.book ≡ Some book → me.1 ≡ (0, Some book) ∷ []
       → Allows (Holds key) slots id me turn_word (λ _. 0) (λ _. Gave (step slots turn_word 0 0 raw.none) me 0)

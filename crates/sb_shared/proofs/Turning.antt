@@ -19,8 +19,8 @@ use Rattle.sb_statements.specs.declared.schedules.Actor.TheVariants.{Worker}
 use Rattle.sb_core.specs.Shared.{SharedAt, Effect, finds, on_worker, turn_taken, on_answer}
 use Rattle.sb_core.specs.Worlds.{WorldAt, worker_at, step}
 use Rattle.sb_shared.specs.Laws.{Laws}
-use Rattle.sb_shared.specs.Parts.{answer_to, given_view, held_by, marked_part, marked_view, missed_view, moved_view, part_of, shown_part, taken_view}
-use Rattle.sb_shared.specs.Plays.{Gave, IsShown, Marked, Placed, Took, Tried}
+use Rattle.sb_shared.specs.Parts.{answer_to, given_view, held_by, answered_part, answered_view, missed_view, moved_view, part_of, shown_part, taken_view}
+use Rattle.sb_shared.specs.Plays.{Gave, IsShown, HasAnswered, Placed, Took, Tried}
 use Rattle.sb_shared.specs.Rule.{FitsPart, Holds, RuleAt, Shows, Slot, slot_of, spot, stop_word, turn_number, turn_word}
 use Rattle.sb_shared.specs.Seats.{worker_in}
 use Rattle.sb_shared.specs.Standing.{AllStand}
@@ -196,8 +196,8 @@ module _ (laws : Laws) (key : Origin) (slots id : ℕ) (v : View) (out : List (�
 
 -- the book answers the worker that has it
 module _ (laws : Laws) (key : Origin) (slots id : ℕ) (v : View) (out : List (ℕ × Slot)) (t : ℕ) (x : WorkerAt) (book : History) (one : v.parts ≡ part.Worker t x (Some book) ∷ []) where
-  pub mark_allowed : worker_plan x ≡ act.Answer → Allows (Holds key) slots id (v, out) turn_word (λ n. n) (Marked (made slots turn_word 0 0 raw.none) (v, out))
-  mark_allowed plan s h homes at_id small =
+  pub answer_allowed : worker_plan x ≡ act.Answer → Allows (Holds key) slots id (v, out) turn_word (λ n. n) (HasAnswered (made slots turn_word 0 0 raw.none) (v, out))
+  answer_allowed plan s h homes at_id small =
       let w = h.1 in
       let r = h.3 in
       let now : List Event = h.0 ++ event.Step (Worker t) ∷ [] in
@@ -211,7 +211,7 @@ module _ (laws : Laws) (key : Origin) (slots id : ℕ) (v : View) (out : List (�
       let said : e.seen ≡ (answer_to book t x).seen = answer_seen w.shared dummy t x c (sym holder.1) in
       let wrote : e.shared.book ≡ after = answer_book w.shared dummy t x c (sym holder.1) in
       let turned =
-      turns laws key slots id v out t x (Some book) one s h.0 w h.2 r at_id act.Answer plan e refl marked_part (Some after) n
+      turns laws key slots id v out t x (Some book) one s h.0 w h.2 r at_id act.Answer plan e refl answered_part (Some after) n
       (λ i. part.Worker t (worker_after x (sym said i)) (Some after))
       ((λ i. held_by (turn i) (wrote i) t) ∙ has_it t after)
       (λ u ne. (λ i. held_by (turn i) e.shared.book u) ∙ has_not t u e.shared.book ne ∙ sym ((λ i. held_by (holder.0 i) w.shared.book u) ∙ has_not t u w.shared.book ne))
@@ -224,7 +224,7 @@ module _ (laws : Laws) (key : Origin) (slots id : ℕ) (v : View) (out : List (�
         slot = r.shows.slot ∙ (λ i. raw.some (slot_of (holder.0 i) w.shared.book)) ∙ sym (λ i. raw.some (slot_of (turn i) e.shared.book));
       }))
       (stop_kept s.words n) in
-      (marked_view v n now, keeps, tt, turned.0, (refl, turned.1, turned.2.0))
+      (answered_view v n now, keeps, tt, turned.0, (refl, turned.1, turned.2.0))
 
   pub give_allowed : worker_plan x ≡ act.Give → out ≡ (0, Some book) ∷ [] → Allows (Holds key) slots id (v, out) turn_word (λ _. 0) (λ _. Gave (made slots turn_word 0 0 raw.none) (v, out) 0)
   give_allowed plan back s h homes at_id small =

@@ -74,11 +74,11 @@ abbrev pub answer_to : History → ℕ → WorkerAt → Effect
 answer_to book target state = on_answer (record { words = []; turn = None; book = book }) target state (taken_in state.stage)
 
 -- the part of a worker after the book that it has answered it
-abbrev pub marked_part : Part → Part
-marked_part (part.Worker target state (Some book)) =
+abbrev pub answered_part : Part → Part
+answered_part (part.Worker target state (Some book)) =
     part.Worker target (worker_after state (answer_to book target state).seen) (Some (answer_to book target state).shared.book)
-marked_part (part.Worker target state None) = part.Worker target state None
-marked_part (part.Thread target thread state results) = part.Thread target thread state results
+answered_part (part.Worker target state None) = part.Worker target state None
+answered_part (part.Thread target thread state results) = part.Thread target thread state results
 
 abbrev pub taken_view : View → History → List Event → View
 taken_view v book now = moved_view v (map (shown_part (seen.Turn true) (Some book)) v.parts) 0 now
@@ -86,8 +86,8 @@ taken_view v book now = moved_view v (map (shown_part (seen.Turn true) (Some boo
 abbrev pub missed_view : View → ℕ → List Event → View
 missed_view v n now = moved_view v (map (shown_part (seen.Turn false) None) v.parts) n now
 
-abbrev pub marked_view : View → ℕ → List Event → View
-marked_view v n now = moved_view v (map marked_part v.parts) n now
+abbrev pub answered_view : View → ℕ → List Event → View
+answered_view v n now = moved_view v (map answered_part v.parts) n now
 
 abbrev pub given_view : View → List Event → View
 given_view v now = moved_view v (map (shown_part seen.Done None) v.parts) 0 now

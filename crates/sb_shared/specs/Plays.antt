@@ -10,7 +10,7 @@ use Rattle.sb_actor.specs.Observations as seen
 use Rattle.sb_book.specs.Histories.{History}
 use Rattle.sb_statements.specs.declared.statements.Word.{Word}
 use Rattle.sb_shared.specs.Events.{stop_in, world_in}
-use Rattle.sb_shared.specs.Parts.{first_part, given_view, marked_view, missed_view, plan_in, seen_of, taken_view, told_view, word_view}
+use Rattle.sb_shared.specs.Parts.{first_part, given_view, answered_view, missed_view, plan_in, seen_of, taken_view, told_view, word_view}
 use Rattle.sb_shared.specs.Rule.{Slot, Holds, spot}
 use Rattle.sb_shared.specs.Standing.{AllStand}
 use Rattle.sb_shared.specs.Steps.{IsSince, IsStep, shown_in}
@@ -52,8 +52,8 @@ Tried s me n after =
     MatchBool (n == 0) (Took me after) (after ≡ (missed_view me.0 n after.0.history, me.1)) × Stand after × IsShown me.0 after.0 (seen.Turn (n == 0))
 
 -- the book answered
-abbrev pub Marked : Step Slot → Placed → ℕ → Placed → Type 0
-Marked s me n after = (after ≡ (marked_view me.0 n after.0.history, me.1)) × Stand after × IsMade me.0 after.0
+abbrev pub HasAnswered : Step Slot → Placed → ℕ → Placed → Type 0
+HasAnswered s me n after = (after ≡ (answered_view me.0 n after.0.history, me.1)) × Stand after × IsMade me.0 after.0
 
 -- the turn was given back, and the book lies in its place
 abbrev pub Gave : Step Slot → Placed → ℕ → Placed → Type 0

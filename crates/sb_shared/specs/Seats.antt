@@ -148,8 +148,8 @@ abbrev pub worker_shown : WorkerSeatValue → Observation → Option History →
 worker_shown s seen book n now = record s { state = worker_after s.state seen; book = book; found = n; history = now }
 
 -- a worker goes on by what the book that it has answers
-abbrev pub worker_marked : WorkerSeatValue → History → ℕ → List Event → WorkerSeatValue
-worker_marked s book n now = worker_shown s (answer_to book s.target s.state).seen (Some (answer_to book s.target s.state).shared.book) n now
+abbrev pub worker_answered : WorkerSeatValue → History → ℕ → List Event → WorkerSeatValue
+worker_answered s book n now = worker_shown s (answer_to book s.target s.state).seen (Some (answer_to book s.target s.state).shared.book) n now
 
 -- the worker's copy, if there is one, is decided
 abbrev pub worker_decided : WorkerSeatValue → WorkerSeatValue

@@ -38,12 +38,12 @@ impl Play<Slot, View> for Tries {
 }
 
 // The book answers.
-pub(crate) struct Marks;
+pub(crate) struct BookAnswers;
 
-impl Play<Slot, View> for Marks {
-    ghost use Rattle.sb_shared.specs.Plays.{Marked};
+impl Play<Slot, View> for BookAnswers {
+    ghost use Rattle.sb_shared.specs.Plays.{HasAnswered};
 
-    ghost then = { Marked };
+    ghost then = { HasAnswered };
 }
 
 // The turn is given back.

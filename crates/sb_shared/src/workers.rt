@@ -9,7 +9,7 @@ ghost use Rattle.sb_core.specs.Kept.{has_turn};
 ghost use Rattle.sb_shared.specs.Keeping.{IsDecided, decision_on};
 ghost use Rattle.sb_shared.specs.Origins.{setting_in};
 ghost use Rattle.sb_shared.specs.Parts.{answer_to, is_on_word};
-ghost use Rattle.sb_shared.specs.Seats.{IsLook, IsStop, IsTry, IsWordStep, IsWorkerStep, mark_held, worker_decided, worker_place, worker_undecided, worker_stepped, worker_shown, worker_marked, worker_told};
+ghost use Rattle.sb_shared.specs.Seats.{IsLook, IsStop, IsTry, IsWordStep, IsWorkerStep, mark_held, worker_decided, worker_place, worker_undecided, worker_stepped, worker_shown, worker_answered, worker_told};
 ghost use Rattle.sb_shared.specs.declared.stops.Stop.TheVariants.{OutOfMemory};
 ghost use Rattle.sb_shared.specs.declared.views.Part.TheVariants as part;
 
@@ -17,7 +17,7 @@ use crate::books::BoxedBook;
 use crate::laws::core_laws;
 use crate::layout::TURN;
 use crate::moves::{look, perform, set_stop};
-use crate::protocol::{Gives, Marks, Slot, Tries};
+use crate::protocol::{BookAnswers, Gives, Slot, Tries};
 use crate::stops::Stop;
 use crate::views::View;
 use crate::worlds::SharedWorld;
@@ -259,7 +259,7 @@ impl WorkerSeat {
         requires plan { worker_plan self.old.state ≡ Answer }
         requires judge { J.policies judge.now ≡ (setting_in self.old.key).policies }
         ensures step { OnOk result (IsWorkerStep self.old self.new) }
-        ensures marked { OnOk result ((book : History) × (self.old.book ≡ Some book) × (self.new ≡ worker_undecided (worker_marked self.old book self.new.found self.new.history))) }
+        ensures answered { OnOk result ((book : History) × (self.old.book ≡ Some book) × (self.new ≡ worker_undecided (worker_answered self.old book self.new.found self.new.history))) }
         ensures err { OnErr result (self.new ≡ worker_undecided self.old) }
     {
         core_laws();
@@ -269,7 +269,7 @@ impl WorkerSeat {
             unreachable!()
         };
         let reply = answer_copy(book, &body.state, body.decision.take())?;
-        world.table.shared.load::<Marks>(&mut body.seat, TURN);
+        world.table.shared.load::<BookAnswers>(&mut body.seat, TURN);
         body.state.accept_reply(&reply);
         Ok(())
     }

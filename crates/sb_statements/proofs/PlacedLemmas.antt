@@ -1,8 +1,11 @@
 -- What the statements of a sound script are, one after another.
-use Rattle.std.proofs.Common.{◌≡◌, refl, ap, sym, ◌∙◌, subst, get_or, ◌<◌, ◌≤◌, ◌+◌, ◌-◌, ℕ, zero, suc, List, [], ◌∷◌, ◌++◌, append_assoc, Bool, true, ◌&&◌, ◌||◌, length, arith}
+use Rattle.std.proofs.Common.{◌≡◌, refl, ap, sym, ◌∙◌, subst, get_or, ◌<◌, ◌≤◌, ◌+◌, ◌-◌, ◌*◌, ℕ, zero, suc, List, [], ◌∷◌, ◌++◌, append_assoc, Bool, true, ◌&&◌, ◌||◌, length, drop, arith}
 use Rattle.std.proofs.lemmas.Bool.{and_parts, and_from, lt-ltb}
+use Rattle.std.proofs.lemmas.Bool.Decides.{nat_tests}
+use Rattle.std.proofs.lemmas.List.{length-append}
 use Rattle.std.proofs.lemmas.List.Folds.{list_all-append, list_any-append}
-use Rattle.std.specs.Prelude.{nat_le, nat_lt, Some, slice_get}
+use Rattle.std.proofs.lemmas.Option.{slice_get_within}
+use Rattle.std.specs.Prelude.{nat_le, nat_lt, None, Some, slice_get}
 use Rattle.std.specs.List.{list_all, list_any}
 use Rattle.sb_statements.specs.CleanTables.{some_writes}
 use Rattle.sb_statements.specs.PlacedStatements.{Placed, PlacedStatementsAreSound, is_short_target, is_short_thread, is_sound_in, placed_in_targets, placed_in_thread, placed_in_threads, placed_statements}
@@ -118,6 +121,56 @@ pub later : (t k n : ℕ) (ss : List Statement) (more : List (List Statement)) (
 later t k n ss more rest h =
     ap (λ ps. slice_get ps n) (append_assoc (placed_in_thread t k 0 ss) (placed_in_threads t (k + 1) more) rest)
     ∙ after_thread t k 0 n ss (placed_in_threads t (k + 1) more ++ rest) h
+
+-- ---- the statements from number n on
+
+pub none_left : (xs : List Placed) (n : ℕ) → slice_get xs n ≡ None → drop n xs ≡ []
+none_left [] zero h = refl
+none_left [] (suc n) h = refl
+none_left (x ∷ xs) zero h = absurd (cc)
+none_left (x ∷ xs) (suc n) h = none_left xs n h
+
+first_after : (xs : List Placed) (n : ℕ) (x : Placed) → slice_get xs n ≡ Some x → drop n xs ≡ x ∷ drop (suc n) xs
+first_after [] n x h = absurd (cc)
+first_after (y ∷ ys) zero x h =
+    let same : y ≡ x = cc in
+    ap (λ z. z ∷ ys) same
+first_after (y ∷ ys) (suc n) x h = first_after ys n x h
+
+pub first_left : (xs : List Placed) (n : ℕ) (x : Placed) → slice_get xs n ≡ Some x → drop n xs ≡ x ∷ drop (n + 1) xs
+first_left xs n x h =
+    let next : suc n ≡ n + 1 = omega arith in
+    first_after xs n x h ∙ ap (λ m. x ∷ drop m xs) next
+
+thread_length : (t k i : ℕ) (ss : List Statement) → length (placed_in_thread t k i ss) ≡ length ss
+thread_length t k i [] = refl
+thread_length t k i (s ∷ ss) = ap suc (thread_length t k (i + 1) ss)
+
+threads_length : (t k : ℕ) (threads : List (List Statement)) → list_all is_short_thread threads ≡ true
+    → length (placed_in_threads t k threads) ≤ length threads * 4096
+threads_length t k [] h = omega arith
+threads_length t k (ss ∷ more) h =
+    let parts = and_parts (is_short_thread ss) (list_all is_short_thread more) h in
+    let low = parts.0 in
+    let short : length ss ≤ 4096 = grind (arith, nat_tests, low) in
+    let joined = length-append (placed_in_thread t k 0 ss) (placed_in_threads t (k + 1) more) in
+    omega (arith, short, joined, thread_length t k 0 ss, threads_length t (k + 1) more parts.1)
+
+targets_length : (t : ℕ) (ts : List TargetScript) → list_all is_short_target ts ≡ true → length (placed_in_targets t ts) ≤ length ts * 16384
+targets_length t [] h = omega arith
+targets_length t (x ∷ ts) h =
+    let parts = and_parts (is_short_target x) (list_all is_short_target ts) h in
+    let its = and_parts (nat_le (length x.threads) 4) (list_all is_short_thread x.threads) parts.0 in
+    let low = its.0 in
+    let few : length x.threads ≤ 4 = grind (arith, nat_tests, low) in
+    let joined = length-append (placed_in_threads t 0 x.threads) (placed_in_targets (t + 1) ts) in
+    omega (arith, few, joined, threads_length t 0 x.threads its.1, targets_length (t + 1) ts parts.1)
+
+-- a sound script has at most 131,072 statements, so the next number fits
+pub few_statements : (script : Script) (n : ℕ) (x : Placed) → is_sound script ≡ true → slice_get (placed_statements script) n ≡ Some x → n < 131072
+few_statements script n x h e =
+    let short = few_and_short script h in
+    omega (arith, short.0, targets_length 0 script.targets short.1, slice_get_within (placed_statements script) n x e)
 
 -- ---- which of them write to a channel
 

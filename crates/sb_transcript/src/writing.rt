@@ -155,7 +155,7 @@ fn put_call(text: &mut Vec<u8>, word: &[u8], tag: CallTag) -> Result<(), NoMemor
     ensures { OnOk result (text.new.items ≡ text.old.items ++ all_after 32 (word.now ∷ call_word tag ∷ [])) }
 {
     put_field(text, word)?;
-    put_field(text, call_word(tag))
+    put_field(text, call_word(tag).as_bytes())
 }
 
 // Appends a call that was denied. A rule that denies is shown as `alarm` if it raises one, and else as `rule`.

@@ -39,7 +39,8 @@ use Rattle.sb_audit.specs.Audited.{failing, result_clause, result_due}
 use Rattle.sb_audit.specs.Before.{entries_of, has_totals, result_count, target_of}
 use Rattle.sb_audit.specs.Clauses.{answers_call, fits_entries, has_entry, is_at, is_due, is_fitting, is_number, is_on_clean, is_reply_of, is_target, needs_entry, suits}
 use Rattle.sb_audit.specs.Comparing.{same_reply}
-use Rattle.sb_audit.specs.Spots.{due_spot, places_from, spots, target_places, thread_places}
+use Rattle.sb_audit.specs.Spots.{due_spot, spot_at, spots}
+use Rattle.sb_statements.specs.PlacedStatements.{placed_in_targets, placed_in_thread, placed_in_threads}
 use Rattle.sb_audit.specs.declared.spots.Spot.{Spot}
 use Rattle.sb_audit.proofs.Converse.Decided.{reply_same}
 use Rattle.sb_audit.proofs.Converse.EntriesPass.{IsCommon, IsPlaced, passes, placed_channel}
@@ -54,7 +55,7 @@ use Rattle.sb_audit.proofs.Converse.Walking.{IsBefore, IsClear, before_results}
 abbrev pub spot_of : Placed → Spot
 spot_of x = x.spot
 
-thread_spots : (t k i : ℕ) (ss : List Statement) (rs : List StmtResult) → length ss ≡ length rs → places_from t k i ss ≡ map spot_of (placed_thread t k i rs)
+thread_spots : (t k i : ℕ) (ss : List Statement) (rs : List StmtResult) → length ss ≡ length rs → map spot_at (placed_in_thread t k i ss) ≡ map spot_of (placed_thread t k i rs)
 thread_spots t k i [] [] h = refl
 thread_spots t k i [] (r ∷ rs) h = absurd (omega arith)
 thread_spots t k i (s ∷ ss) [] h = absurd (omega arith)
@@ -75,22 +76,24 @@ AreAllAlike (target ∷ targets) [] = ⊥
 AreAllAlike (target ∷ targets) (threads ∷ more) = AreAlike target.threads threads × AreAllAlike targets more
 
 target_spots : (t k : ℕ) (threads : List (List Statement)) (results : List (List StmtResult)) → AreAlike threads results
-    → thread_places t k threads ≡ map spot_of (placed_target t k results)
+    → map spot_at (placed_in_threads t k threads) ≡ map spot_of (placed_target t k results)
 target_spots t k [] [] h = refl
 target_spots t k [] (rs ∷ more) h = absurd h
 target_spots t k (ss ∷ threads) [] h = absurd h
 target_spots t k (ss ∷ threads) (rs ∷ more) h =
-    ap (λ l. l ++ thread_places t (k + 1) threads) (thread_spots t k 0 ss rs h.0)
+    map-append spot_at (placed_in_thread t k 0 ss) (placed_in_threads t (k + 1) threads)
+    ∙ ap (λ l. l ++ map spot_at (placed_in_threads t (k + 1) threads)) (thread_spots t k 0 ss rs h.0)
     ∙ ap (λ l. map spot_of (placed_thread t k 0 rs) ++ l) (target_spots t (k + 1) threads more h.1)
     ∙ sym (map-append spot_of (placed_thread t k 0 rs) (placed_target t (k + 1) more))
 
 all_spots : (t : ℕ) (targets : List TargetScript) (results : List (List (List StmtResult))) → AreAllAlike targets results
-    → target_places t targets ≡ map spot_of (placed t results)
+    → map spot_at (placed_in_targets t targets) ≡ map spot_of (placed t results)
 all_spots t [] [] h = refl
 all_spots t [] (threads ∷ more) h = absurd h
 all_spots t (target ∷ targets) [] h = absurd h
 all_spots t (target ∷ targets) (threads ∷ more) h =
-    ap (λ l. l ++ target_places (t + 1) targets) (target_spots t 0 target.threads threads h.0)
+    map-append spot_at (placed_in_threads t 0 target.threads) (placed_in_targets (t + 1) targets)
+    ∙ ap (λ l. l ++ map spot_at (placed_in_targets (t + 1) targets)) (target_spots t 0 target.threads threads h.0)
     ∙ ap (λ l. map spot_of (placed_target t 0 threads) ++ l) (all_spots (t + 1) targets more h.1)
     ∙ sym (map-append spot_of (placed_target t 0 threads) (placed (t + 1) more))
 

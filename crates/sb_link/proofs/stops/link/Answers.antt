@@ -1,12 +1,9 @@
-use Rattle.std.proofs.Common.{rules, ◌≡◌, subst, sym}
-use Rattle.std.specs.Prelude.{Err}
+use Rattle.std.proofs.Common.{rules, ◌≡◌, ◌∙◌, ap, subst, sym, Err}
 use Rattle.sb_block.specs.Calls.{decoded}
-use Rattle.sb_link.specs.Answers.{IsResolvedCall}
+use Rattle.sb_block.specs.declared.faults.BlockFault.{BlockFault}
 use Rattle.sb_link.proofs.stops.link.Goals as goal
 
-pub returns-in-Err-Fault-clause-resolved : goal.returns-in-Err-Fault-clause-resolved
-returns-in-Err-Fault-clause-resolved c =
-    let links = c.args.links.now in
-    let fault : decoded c.args.taken.now ≡ Err c.in-Err-Fault.field-0-0 = search rules in
-    let same : c.copy.result ≡ c.args.taken.now = search rules in
-    subst (λ t. IsResolvedCall links (decoded t)) (sym same) (subst (IsResolvedCall links) (sym fault) tt)
+pub returns-in-Err-Fault-clause-call : goal.returns-in-Err-Fault-clause-call
+returns-in-Err-Fault-clause-call c =
+    let fault : decoded c.args.taken.now ≡ Err c.in-Err-Fault.fault = search rules in
+    subst (λ (f : BlockFault). decoded c.copy.result ≡ Err f) (sym c.in-Err-Fault.fault-is) (ap decoded c.copy.ensures ∙ fault)

@@ -2,7 +2,7 @@ use Rattle.std.proofs.Common.{rules, ◌≡◌, ◌∙◌, ◌++◌, ◌∷◌, 
 use Rattle.std.specs.Prelude.{Ok, Err}
 use Rattle.sb_block.specs.Copies.{mark_of}
 use Rattle.sb_book.specs.Histories.{answered, target_decision}
-use Rattle.sb_link.specs.Answers.{linked, stopped_reply}
+use Rattle.sb_link.specs.Answers.{IsResolvedCall, linked, stopped_reply}
 use Rattle.sb_link.specs.LinkedHistories.{IsLinkedHistory, LinkedHistory, answered_by, answered_linked, linked_reply, reply_by}
 use Rattle.sb_link.specs.declared.linked_books.Linked.TheVariants as item
 use Rattle.sb_link.proofs.Linking.{entry_is_linked, stop_is_linked}
@@ -14,19 +14,20 @@ invariant_of-self-in-Ok g c =
     let target = c.args.target in
     let channel = c.args.channel in
     let taken = c.args.taken.now in
-    let copy = c.in-Ok.copy in
+    let copy = c.in-Ok.linked.copy in
     let book : c.answer_copy.new.book ≡ answered old.history target channel copy (target_decision old.history target copy) = search rules in
     let log : c.push_reserved.new.self.items ≡ old.log ++ item.Entry taken (length old.history.entries) ∷ [] = search rules in
     let new : LinkedHistory = record { links = c.self.inside.links; history = c.answer_copy.new.book; log = c.push_reserved.new.self.items } in
     let whole : new ≡ answered_by old target channel taken (Ok copy) = λ i. record { links = c.self.inside.links; history = book i; log = log i } in
-    subst IsLinkedHistory (sym whole) (entry_is_linked old target channel taken copy c.self.invariant c.in-Ok.ensures.copy c.in-Ok.ensures.resolved)
+    subst IsLinkedHistory (sym whole) (entry_is_linked old target channel taken copy c.self.invariant c.in-Ok.ensures.copy
+    (subst (IsResolvedCall old.links) (sym c.in-Ok.ensures.call) c.in-Ok.ensures.resolved))
 
 pub returns-in_ok-reply-in-Ok-clause-reply : goal.returns-in_ok-reply-in-Ok-clause-reply
 returns-in_ok-reply-in-Ok-clause-reply g c =
     let old : LinkedHistory = record { links = c.self.inside.links; history = c.self.inside.book; log = c.self.inside.log.items } in
     let target = c.args.target in
     let taken = c.args.taken.now in
-    let reply : c.in_ok-reply-in-Ok.reply ≡ reply_by old target taken (Ok c.in-Ok.copy) = search rules in
+    let reply : c.in_ok-reply-in-Ok.reply ≡ reply_by old target taken (Ok c.in-Ok.linked.copy) = search rules in
     reply ∙ ap (reply_by old target taken) (sym c.in-Ok.ensures.copy) ∙ ap (λ (s : LinkedHistory). linked_reply s target taken) c.self.view_is
 
 pub returns-in_ok-reply-in-Ok-clause-ok : goal.returns-in_ok-reply-in-Ok-clause-ok
@@ -35,7 +36,7 @@ returns-in_ok-reply-in-Ok-clause-ok g c =
     let target = c.args.target in
     let channel = c.args.channel in
     let taken = c.args.taken.now in
-    let copy = c.in-Ok.copy in
+    let copy = c.in-Ok.linked.copy in
     let book : c.answer_copy.new.book ≡ answered old.history target channel copy (target_decision old.history target copy) = search rules in
     let log : c.push_reserved.new.self.items ≡ old.log ++ item.Entry taken (length old.history.entries) ∷ [] = search rules in
     let new : LinkedHistory = record { links = c.self.inside.links; history = c.answer_copy.new.book; log = c.push_reserved.new.self.items } in

@@ -4,7 +4,7 @@ use Rattle.sb_actor.specs.declared.acts.Act.TheVariants.{Answer}
 use Rattle.sb_shared.specs.Keeping.{IsBody}
 use Rattle.sb_shared.specs.Seats.{worker_in}
 use Rattle.sb_shared.proofs.Keeping.{book_at_mark, same_plan}
-use Rattle.sb_shared.proofs.Lying.{mark_allowed_at}
+use Rattle.sb_shared.proofs.Lying.{answer_allowed_at}
 use Rattle.sb_shared.proofs.workers.WorkerSeat.answer.Goals as goal
 
 pub load-requires : goal.load-requires
@@ -21,7 +21,7 @@ load-requires g c =
     let has = book_at_mark me body.state body.book body.decision kept (sym (same_plan me body.state body.book body.decision kept) ∙ plan) in (
       own,
       omega (arith, count),
-      mark_allowed_at
+      answer_allowed_at
           c.core_laws.ensures
           shared.key shared.table_id.slots body.seat.id me kept.worker has.0 plan has.1,
     )
