@@ -84,14 +84,14 @@ fn run<R: Threads + Wait + Sync>(
 }
 
 // How the command of these arguments ends.
-fn outcome_of<R: Threads + Wait + Sync>(
+fn outcome_of<'a, R: Threads + Wait + Sync>(
     rt: &R,
     alloc: Global,
-    words: &[String],
+    words: &'a [String],
     files: &mut MemFiles,
     out: &mut MemSink,
     gate: &MeetingGate,
-) -> Outcome {
+) -> Outcome<'a> {
     broker_top(rt, alloc, words, files, out, gate)
 }
 
@@ -99,7 +99,7 @@ fn outcome_of<R: Threads + Wait + Sync>(
 fn put_end(
     alloc: Global,
     case: &Case,
-    outcome: &Outcome,
+    outcome: &Outcome<'_>,
     reads: u64,
     page: &mut Page,
 ) -> Result<(), RowFault> {

@@ -1,9 +1,9 @@
 // What is printed of how a case ended.
 
 use sb_book::Report;
-use sb_plain::{Outcome, Status};
+use sb_message::{Refusal, Status, TextFault, message};
+use sb_plain::Outcome;
 use sb_rows::{Page, RowFault, Shown};
-use sb_top::{Complaint, exit_code, message};
 use std::alloc::Global;
 use std::fmt::Debug;
 
@@ -11,7 +11,7 @@ use std::fmt::Debug;
 /// that the program would put on standard error.
 pub fn put_outcome(
     alloc: Global,
-    outcome: &Outcome,
+    outcome: &Outcome<'_>,
     reads: u64,
     shown: Shown,
     page: &mut Page,
@@ -20,7 +20,7 @@ pub fn put_outcome(
     put_exit(
         alloc,
         &outcome.report,
-        (exit_code(status), reads),
+        (status.exit_code(), reads),
         shown,
         page,
     )?;
@@ -50,19 +50,21 @@ fn put_exit(
 }
 
 fn put_complaint(alloc: Global, status: Status, page: &mut Page) -> Result<(), RowFault> {
-    let complaint = Complaint { status };
-    Ok(page.put_line(format!(in alloc; "{complaint}")?.as_str())?)
+    Ok(page.put_line(format!(in alloc; "sandbox: {status}")?.as_str())?)
 }
 
 // Puts the status with the fault of a file that it says.
 fn put_fault(alloc: Global, status: Status, page: &mut Page) -> Result<(), RowFault> {
-    match status {
-        Status::PolicyRefused(fault) => put_status(alloc, "PolicyRefused", &fault, page),
-        Status::ScriptRefused(fault) => put_status(alloc, "ScriptRefused", &fault, page),
-        Status::ScheduleRefused(fault) => put_status(alloc, "ScheduleRefused", &fault, page),
-        Status::LinksRefused(fault) => put_status(alloc, "LinksRefused", &fault, page),
-        Status::MovesRefused(fault) => put_status(alloc, "MovesRefused", &fault, page),
-        _ => Err(RowFault::UnknownRow),
+    let Status::Refused(Refusal::Text { which: _, fault }) = status else {
+        return Err(RowFault::UnknownRow);
+    };
+    match fault {
+        TextFault::Policy(fault) => put_status(alloc, "PolicyRefused", &fault, page),
+        TextFault::Script(fault) => put_status(alloc, "ScriptRefused", &fault, page),
+        TextFault::Schedule(fault) => put_status(alloc, "ScheduleRefused", &fault, page),
+        TextFault::Links(fault) => put_status(alloc, "LinksRefused", &fault, page),
+        TextFault::Moves(fault) => put_status(alloc, "MovesRefused", &fault, page),
+        TextFault::Transcript(_) => Err(RowFault::UnknownRow),
     }
 }
 
@@ -79,10 +81,11 @@ fn put_status<T: Debug>(
 pub fn put_message(
     alloc: Global,
     words: &[String],
-    outcome: &Outcome,
+    outcome: &Outcome<'_>,
     page: &mut Page,
 ) -> Result<(), RowFault> {
-    let text = message(alloc, words, outcome)?;
+    let shown = outcome.shown.as_ref();
+    let text = message(alloc, words, &outcome.files, outcome.status, shown)?;
     put_marked(alloc, text.as_str(), page)
 }
 

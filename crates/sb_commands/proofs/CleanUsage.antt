@@ -1,12 +1,12 @@
 -- The message of arguments that are no command is clean.
 use Rattle.std.proofs.Common.{◌≡◌, ℕ, suc, ◌-◌, ◌==◌, Bool, true, false, cond, ◌&&◌, List, [], ◌∷◌, ◌++◌, length, drop, Option, None, Some, codes, nat_eq, refl, subst, sym, inl, inr}
-use Rattle.std.specs.Prelude.{⊤, is_some, slice_get, Result, Ok, Err}
+use Rattle.std.specs.Prelude.{⊤, zero, slice_get, Result, Ok, Err}
 use Rattle.std.specs.List.{list_all}
 use Rattle.std.specs.Cmp.Lexicographic.{pointwise}
 use Rattle.std.specs.Fmt.{decimal}
 use Rattle.sb_glyphs.proofs.CleanLaws.{Spelled, is_plain, clean_of, both, three, four, five, nothing, plain, decimal_clean, bytes_clean, quoted_bytes_clean, feed}
-use Rattle.sb_commands.proofs.Listed.{form_is, is_plain_choice, is_plain_form, is_plain_name, is_plain_place, plain_form}
-use Rattle.sb_commands.proofs.ReadSteps.{both as and_both}
+use Rattle.sb_commands.proofs.Listed.{form_is, is_plain_choice, is_plain_form, is_plain_kind, is_plain_name, is_plain_place, plain_form}
+use Rattle.sb_commands.proofs.ReadSteps.{both as and_both, gave, with_end, with_last, with_options, with_places}
 use Rattle.sb_commands.specs.declared.works.PlainWork.TheVariants.{Check}
 use Rattle.sb_commands.specs.declared.works.ThreadedWork.TheVariants.{Run}
 use Rattle.sb_commands.specs.declared.works.Work.{Work}
@@ -14,9 +14,11 @@ use Rattle.sb_commands.specs.declared.works.Work.TheVariants.{Plain, Threaded}
 use Rattle.sb_glyphs.specs.CleanTexts.{IsClean}
 use Rattle.sb_glyphs.specs.Tokens.{quoted_bytes}
 use Rattle.sb_commands.specs.Commands.{Command, with_values, with_form, command_of}
-use Rattle.sb_commands.specs.Forms.{Bounded, Choice, Form, Place, File, Number, form_by, form_with}
+use Rattle.sb_commands.specs.Forms.{Bounded, Choice, Form, Kind, Place, File, Number, Switch, Takes, Word, form_by, form_with}
 use Rattle.sb_commands.specs.NumberWords.{is_number}
-use Rattle.sb_commands.specs.Usage.{Fault, NotUtf8, NoCommand, UnknownCommand, UnknownOption, OptionTwice, OptionBetween, NoOptionNumber, BadOptionNumber, NoFileName, BadNumber, ExtraWord, Missing, Values, FlagWord, Apart, Joined, Other, flag_word, Cut, cut_apart, cut_by, cut_option, dash_by, dash_fault, is_dash, kind_fault, place_fault, place_name, unless_fault, cut_places, last_by, cut_last, cut_end, extra_in, values_unless, with_end, with_last, with_places, with_option, read_by}
+use Rattle.sb_text.specs.Steps.{◌>>=◌}
+use Rattle.sb_commands.specs.Usage.{Fault, NotUtf8, NoCommand, UnknownCommand, UnknownOption, OptionTwice, OptionBetween, NoOptionNumber, BadOptionNumber, NoFileName, BadNumber, ExtraWord, Missing, Given, Value, Values, FlagWord, Apart, Joined, Last, Other, flag_word, Cut, cut_all, cut_apart, cut_found, cut_new, cut_option, cut_value, dash_by, dash_fault, extra_fault, flags_of, give, given_at, is_dash, is_given, kind_fault, none_given, option_from, option_of, place_fault, place_name, unless_fault, unless_other, cut_places, last_by, cut_last, value_by, values_by, values_unless, word_as, read_by}
+use Rattle.sb_commands.specs.declared.usage.GivenOptions.{GivenOptions}
 use Rattle.sb_commands.specs.UsageLaws.{UsageMessagesAreClean}
 use Rattle.sb_commands.specs.UsageMessages.{word_at, quoted_word, command_text, bounds_text, name_text, wrong_text, flag_text, number_text, fault_text, form_text, unknown_text, argument_text, is_flag, topic_text, first_text, second_text, no_command_text, advice, usage_line, usage_message}
 
@@ -25,18 +27,22 @@ use Rattle.sb_commands.specs.UsageMessages.{word_at, quoted_word, command_text, 
 abbrev HasCleanNumber : Bounded → Type 0
 HasCleanNumber number = Spelled number.name
 
+abbrev HasCleanKind : Kind → Type 0
+HasCleanKind Switch = ⊤
+HasCleanKind (Takes number) = HasCleanNumber number
+
 abbrev HasCleanChoice : Choice → Type 0
-HasCleanChoice choice = Spelled choice.flag × HasCleanNumber choice.number
+HasCleanChoice choice = Spelled choice.flag × HasCleanKind choice.kind
 
 abbrev HasCleanNames : Fault → Type 0
 HasCleanNames NotUtf8 = ⊤
 HasCleanNames NoCommand = ⊤
 HasCleanNames UnknownCommand = ⊤
 HasCleanNames (UnknownOption at) = ⊤
-HasCleanNames (OptionTwice at choice) = HasCleanChoice choice
-HasCleanNames (OptionBetween at choice) = HasCleanChoice choice
-HasCleanNames (NoOptionNumber at choice) = HasCleanChoice choice
-HasCleanNames (BadOptionNumber at skipped choice) = HasCleanChoice choice
+HasCleanNames (OptionTwice at flag) = Spelled flag
+HasCleanNames (OptionBetween at flag) = Spelled flag
+HasCleanNames (NoOptionNumber flag number) = Spelled flag × HasCleanNumber number
+HasCleanNames (BadOptionNumber at skipped flag number) = Spelled flag
 HasCleanNames (NoFileName at name) = Spelled name
 HasCleanNames (BadNumber at number) = HasCleanNumber number
 HasCleanNames (ExtraWord at) = ⊤
@@ -52,8 +58,8 @@ bounds_clean number =
     four (codes " is not a number from ") (decimal number.low) (codes " to ") (decimal number.high) (plain (codes " is not a number from ") refl)
     (decimal_clean number.low) (plain (codes " to ") refl) (decimal_clean number.high)
 
-flag_clean : (choice : Choice) → HasCleanChoice choice → Spelled (flag_text choice)
-flag_clean choice h = three (codes "--") choice.flag (codes ": ") (plain (codes "--") refl) h.0 (plain (codes ": ") refl)
+flag_clean : (flag : List ℕ) → Spelled flag → Spelled (flag_text flag)
+flag_clean flag h = three (codes "--") flag (codes ": ") (plain (codes "--") refl) h (plain (codes ": ") refl)
 
 name_clean : (words : List (List ℕ)) (before name after : List ℕ) → Spelled before → Spelled name → Spelled after
     → Spelled (command_text words ++ before ++ name ++ after)
@@ -64,8 +70,8 @@ wrong_clean words name at why hn hw =
     three (name_text words [] name (codes ": ")) (quoted_word at words) why
     (name_clean words [] name (codes ": ") nothing hn (plain (codes ": ") refl)) (quoted_bytes_clean (word_at at words)) hw
 
-number_clean : (choice : Choice) (why : List ℕ) → HasCleanChoice choice → Spelled why → Spelled (number_text choice why)
-number_clean choice why h hw = three (flag_text choice) choice.number.name why (flag_clean choice h) h.1 hw
+number_clean : (flag : List ℕ) (number : Bounded) (why : List ℕ) → Spelled flag → HasCleanNumber number → Spelled why → Spelled (number_text flag number why)
+number_clean flag number why h hn hw = three (flag_text flag) number.name why (flag_clean flag h) hn hw
 
 argument_clean : (words : List (List ℕ)) (before : List ℕ) (at : ℕ) → Spelled before → Spelled (argument_text words before at)
 argument_clean words before at h = three (command_text words) before (quoted_word at words) (command_clean words) h (quoted_bytes_clean (word_at at words))
@@ -98,15 +104,15 @@ text_clean NotUtf8 words h = plain (codes "an argument is not UTF-8") refl
 text_clean NoCommand words h = plain (codes "a command is missing") refl
 text_clean UnknownCommand words h = no_command_clean words
 text_clean (UnknownOption at) words h = argument_clean words (codes "unknown option ") at (plain (codes "unknown option ") refl)
-text_clean (OptionTwice at choice) words h =
-    name_clean words (codes "--") choice.flag (codes " is given twice") (plain (codes "--") refl) h.0 (plain (codes " is given twice") refl)
-text_clean (OptionBetween at choice) words h =
-    name_clean words (codes "--") choice.flag (codes " is not allowed between the files") (plain (codes "--") refl) h.0
+text_clean (OptionTwice at flag) words h =
+    name_clean words (codes "--") flag (codes " is given twice") (plain (codes "--") refl) h (plain (codes " is given twice") refl)
+text_clean (OptionBetween at flag) words h =
+    name_clean words (codes "--") flag (codes " is not allowed between the files") (plain (codes "--") refl) h
     (plain (codes " is not allowed between the files") refl)
-text_clean (NoOptionNumber at choice) words h = number_clean choice (codes " is missing") h (plain (codes " is missing") refl)
-text_clean (BadOptionNumber at skipped choice) words h =
-    three (flag_text choice) (quoted_bytes (drop skipped (word_at at words))) (bounds_text choice.number) (flag_clean choice h)
-    (quoted_bytes_clean (drop skipped (word_at at words))) (bounds_clean choice.number)
+text_clean (NoOptionNumber flag number) words h = number_clean flag number (codes " is missing") h.0 h.1 (plain (codes " is missing") refl)
+text_clean (BadOptionNumber at skipped flag number) words h =
+    three (flag_text flag) (quoted_bytes (drop skipped (word_at at words))) (bounds_text number) (flag_clean flag h)
+    (quoted_bytes_clean (drop skipped (word_at at words))) (bounds_clean number)
 text_clean (NoFileName at name) words h = wrong_clean words name at (codes " is not a file name") h (plain (codes " is not a file name") refl)
 text_clean (BadNumber at number) words h = wrong_clean words number.name at (bounds_text number) h (bounds_clean number)
 text_clean (ExtraWord at) words h = argument_clean words (codes "extra argument ") at (plain (codes "extra argument ") refl)
@@ -149,9 +155,9 @@ message_clean fault words h =
 -- ---- the faults of a form
 
 -- a form with clean names
-abbrev HasCleanOption : Option Choice → Type 0
-HasCleanOption None = ⊤
-HasCleanOption (Some choice) = HasCleanChoice choice
+abbrev HasCleanOptions : List Choice → Type 0
+HasCleanOptions [] = ⊤
+HasCleanOptions (choice ∷ choices) = HasCleanChoice choice × HasCleanOptions choices
 
 abbrev HasCleanLast : Option (List ℕ) → Type 0
 HasCleanLast None = ⊤
@@ -164,7 +170,7 @@ HasCleanPlaces (place ∷ places) = Spelled (place_name place) × HasCleanPlaces
 record IsCleanForm (form : Form) : Type 0 where
   places : HasCleanPlaces form.places
   last : HasCleanLast form.last
-  option : HasCleanOption form.option
+  options : HasCleanOptions form.options
 
 -- a result whose fault, if it is one, has clean names
 abbrev Fine : {A : Type 0} → Result A Fault → Type 0
@@ -183,54 +189,97 @@ fault_tested : (b : Bool) (x y : Option Fault) → FineFault x → FineFault y �
 fault_tested true x y hx hy = hx
 fault_tested false x y hx hy = hy
 
-apart_fine : (choice : Choice) (total : ℕ) (words : List (List ℕ)) → HasCleanChoice choice → Fine (cut_apart choice total words)
-apart_fine choice total [] h = h
-apart_fine choice total (word ∷ words) h = tested (is_number choice.number.low choice.number.high word) _ _ tt h
+-- an option that is found has clean names
+abbrev FineFound : Option (ℕ × Choice) → Type 0
+FineFound None = ⊤
+FineFound (Some found) = HasCleanChoice found.1
 
-cut_fine : (choice : Choice) (total : ℕ) (word : List ℕ) (words : List (List ℕ)) (flag : FlagWord) → HasCleanChoice choice → Fine (cut_by choice total word words flag)
-cut_fine choice total word words Apart h = apart_fine choice total words h
-cut_fine choice total word words (Joined value) h = tested (is_number choice.number.low choice.number.high value) _ _ tt h
-cut_fine choice total word words Other h = tt
+unless_other_fine : (found : FlagWord) (n : ℕ) (choice : Choice) (rest : Option (ℕ × Choice)) → HasCleanChoice choice → FineFound rest
+    → FineFound (unless_other found n choice rest)
+unless_other_fine Apart n choice rest h k = h
+unless_other_fine (Joined value) n choice rest h k = h
+unless_other_fine Other n choice rest h k = k
 
-option_fine : (option : Option Choice) (total : ℕ) (words : List (List ℕ)) → HasCleanOption option → Fine (cut_option option total words)
-option_fine None total words h = tt
-option_fine (Some choice) total [] h = tt
-option_fine (Some choice) total (word ∷ words) h = cut_fine choice total word words (flag_word choice.flag word) h
+found_clean : (n : ℕ) (choices : List Choice) (word : List ℕ) → HasCleanOptions choices → FineFound (option_from n choices word)
+found_clean n [] word h = tt
+found_clean n (choice ∷ choices) word h =
+    unless_other_fine (word_as choice word) n choice (option_from (suc n) choices word) h.0 (found_clean (suc n) choices word h.1)
+
+apart_fine : (flag : List ℕ) (number : Bounded) (total : ℕ) (words : List (List ℕ)) → Spelled flag → HasCleanNumber number → Fine (cut_apart flag number total words)
+apart_fine flag number total [] h hn = (h, hn)
+apart_fine flag number total (word ∷ words) h hn = tested (is_number number.low number.high word) _ _ tt h
+
+value_fine : (flag : List ℕ) (kind : Kind) (total : ℕ) (word : List ℕ) (words : List (List ℕ)) (found : FlagWord) → Spelled flag → HasCleanKind kind
+    → Fine (value_by flag kind total word words found)
+value_fine flag (Takes number) total word words Apart h hk = apart_fine flag number total words h hk
+value_fine flag (Takes number) total word words (Joined value) h hk = tested (is_number number.low number.high value) _ _ tt h
+value_fine flag (Takes number) total word words Other h hk = tt
+value_fine flag Switch total word words Apart h hk = tt
+value_fine flag Switch total word words (Joined value) h hk = tt
+value_fine flag Switch total word words Other h hk = tt
+
+gave_fine : (given : Given) (n : ℕ) (value : Value) → Fine value → Fine (gave given n value)
+gave_fine given n (Ok cut) h = tt
+gave_fine given n (Err fault) h = h
+
+new_fine : (given : Given) (total : ℕ) (words : List (List ℕ)) (n : ℕ) (choice : Choice) (word : List ℕ) (later : List (List ℕ)) (before : Option (List ℕ))
+    → HasCleanChoice choice → Fine (cut_new given total words n choice word later before)
+new_fine given total words n choice word later (Some before) h = tt
+new_fine given total words n choice word later None h =
+    gave_fine given n (cut_value choice total word later) (value_fine choice.flag choice.kind total word later (flag_word choice.flag word) h.0 h.1)
+
+found_fine : (given : Given) (total : ℕ) (word : List ℕ) (later : List (List ℕ)) (found : Option (ℕ × Choice)) → FineFound found
+    → Fine (cut_found given total word later found)
+found_fine given total word later None h = tt
+found_fine given total word later (Some found) h = new_fine given total (word ∷ later) found.0 found.1 word later (given_at found.0 given) h
+
+option_fine : (choices : List Choice) (given : Given) (total : ℕ) (words : List (List ℕ)) → HasCleanOptions choices → Fine (cut_option choices given total words)
+option_fine choices given total [] h = tt
+option_fine choices given total (word ∷ words) h = found_fine given total word words (option_of choices word) (found_clean 0 choices word h)
+
+all_fine : (choices : List Choice) (given : Given) (total : ℕ) (words : List (List ℕ)) → HasCleanOptions choices → Fine (cut_all choices given total words)
+all_fine [] given total words h = tt
+all_fine (choice ∷ []) given total words h = option_fine (choice ∷ []) given total words h
+all_fine (choice ∷ other ∷ choices) given total words h =
+    by (cut_option (choice ∷ other ∷ choices) given total words) (option_fine (choice ∷ other ∷ choices) given total words h)
+  where
+    by : (cut : Cut) → Fine cut → Fine (cut >>= λ c. cut_option (choice ∷ other ∷ choices) c.0 total c.1)
+    by (Ok cut) k = option_fine (choice ∷ other ∷ choices) cut.0 total cut.1 h
+    by (Err fault) k = k
 
 either : (b : Bool) (x y : Fault) → HasCleanNames x → HasCleanNames y → HasCleanNames (cond b x y)
 either true x y hx hy = hx
 either false x y hx hy = hy
 
-dash_by_fine : (choice : Choice) (given : Bool) (at : ℕ) (flag : FlagWord) → HasCleanChoice choice → HasCleanNames (dash_by choice given at flag)
-dash_by_fine choice given at Apart h = either given (OptionTwice at choice) (OptionBetween at choice) h h
-dash_by_fine choice given at (Joined value) h = either given (OptionTwice at choice) (OptionBetween at choice) h h
-dash_by_fine choice given at Other h = tt
+dash_by_fine : (given : GivenOptions) (at : ℕ) (found : Option (ℕ × Choice)) → FineFound found → HasCleanNames (dash_by given at found)
+dash_by_fine given at None h = tt
+dash_by_fine given at (Some found) h = either (is_given found.0 given) (OptionTwice at found.1.flag) (OptionBetween at found.1.flag) h.0 h.0
 
-dash_fine : (option : Option Choice) (given : Bool) (at : ℕ) (word : List ℕ) → HasCleanOption option → HasCleanNames (dash_fault option given at word)
-dash_fine None given at word h = tt
-dash_fine (Some choice) given at word h = dash_by_fine choice given at (flag_word choice.flag word) h
+dash_fine : (choices : List Choice) (given : GivenOptions) (at : ℕ) (word : List ℕ) → HasCleanOptions choices → HasCleanNames (dash_fault choices given at word)
+dash_fine choices given at word h = dash_by_fine given at (option_of choices word) (found_clean 0 choices word h)
 
 kind_fine : (place : Place) (at : ℕ) (word : List ℕ) → Spelled (place_name place) → FineFault (kind_fault place at word)
 kind_fine (File name) at [] h = h
 kind_fine (File name) at (b ∷ bs) h = tt
+kind_fine (Word name) at word h = tt
 kind_fine (Number number) at word h = fault_tested (is_number number.low number.high word) None (Some (BadNumber at number)) tt h
 
-place_fine : (option : Option Choice) (given : Bool) (at : ℕ) (place : Place) (word : List ℕ) → HasCleanOption option → Spelled (place_name place)
-    → FineFault (place_fault option given at place word)
-place_fine option given at place word ho hp =
-    fault_tested (is_dash word) (Some (dash_fault option given at word)) (kind_fault place at word) (dash_fine option given at word ho) (kind_fine place at word hp)
+place_fine : (choices : List Choice) (given : GivenOptions) (at : ℕ) (place : Place) (word : List ℕ) → HasCleanOptions choices → Spelled (place_name place)
+    → FineFault (place_fault choices given at place word)
+place_fine choices given at place word ho hp =
+    fault_tested (is_dash word) (Some (dash_fault choices given at word)) (kind_fault place at word) (dash_fine choices given at word ho) (kind_fine place at word hp)
 
 unless_fine : (fault : Option Fault) (result : Result (List (List ℕ)) Fault) → FineFault fault → Fine result → Fine (unless_fault fault result)
 unless_fine None result hf hr = hr
 unless_fine (Some fault) result hf hr = hf
 
-places_fine : (option : Option Choice) (given : Bool) (total : ℕ) (places : List Place) (words : List (List ℕ)) → HasCleanOption option → HasCleanPlaces places
-    → Fine (cut_places option given total places words)
-places_fine option given total [] words ho hp = tt
-places_fine option given total (place ∷ places) [] ho hp = hp.0
-places_fine option given total (place ∷ places) (word ∷ words) ho hp =
-    unless_fine (place_fault option given (total - length (word ∷ words)) place word) (cut_places option given total places words)
-    (place_fine option given (total - length (word ∷ words)) place word ho hp.0) (places_fine option given total places words ho hp.1)
+places_fine : (choices : List Choice) (given : GivenOptions) (total : ℕ) (places : List Place) (words : List (List ℕ)) → HasCleanOptions choices → HasCleanPlaces places
+    → Fine (cut_places choices given total places words)
+places_fine choices given total [] words ho hp = tt
+places_fine choices given total (place ∷ places) [] ho hp = hp.0
+places_fine choices given total (place ∷ places) (word ∷ words) ho hp =
+    unless_fine (place_fault choices given (total - length (word ∷ words)) place word) (cut_places choices given total places words)
+    (place_fine choices given (total - length (word ∷ words)) place word ho hp.0) (places_fine choices given total places words ho hp.1)
 
 last_by_fine : (name : List ℕ) (at : ℕ) (word : List ℕ) (words : List (List ℕ)) → Spelled name → Fine (last_by name at word words)
 last_by_fine name at [] words h = h
@@ -241,44 +290,45 @@ last_fine None total words h = tt
 last_fine (Some name) total [] h = tt
 last_fine (Some name) total (word ∷ words) h = last_by_fine name (total - length (word ∷ words)) word words h
 
-end_fine : (option : Option Choice) (given : Bool) (total : ℕ) (words : List (List ℕ)) → HasCleanOption option → Fine (cut_end option given total words)
-end_fine option true total words h = tt
-end_fine option false total words h = option_fine option total words h
-
-extra_fine : (option : Option Choice) (total : ℕ) (words : List (List ℕ)) → HasCleanOption option → FineFault (extra_in option total words)
-extra_fine option total [] h = tt
-extra_fine option total (word ∷ words) h =
+extra_fine : (choices : List Choice) (given : GivenOptions) (total : ℕ) (words : List (List ℕ)) → HasCleanOptions choices
+    → FineFault (extra_fault choices given total words)
+extra_fine choices given total [] h = tt
+extra_fine choices given total (word ∷ words) h =
     let at = total - length (word ∷ words) in
-    either (is_dash word) (dash_fault option true at word) (ExtraWord at) (dash_fine option true at word h) tt
+    either (is_dash word) (dash_fault choices given at word) (ExtraWord at) (dash_fine choices given at word h) tt
 
 values_fine : (fault : Option Fault) (values : Values) → FineFault fault → Fine (values_unless fault values)
 values_fine None values h = tt
 values_fine (Some fault) values h = h
 
-with_end_fine : (form : Form) (total : ℕ) (before : Option (List ℕ)) (placed : List (List ℕ)) (last : Option (List ℕ)) (cut : Cut) → IsCleanForm form → Fine cut
-    → Fine (with_end form total before placed last cut)
-with_end_fine form total before placed last (Err fault) f h = h
-with_end_fine form total before placed last (Ok (after, words)) f h = values_fine (extra_in form.option total words) _ (extra_fine form.option total words f.option)
+with_end_fine : (form : Form) (total : ℕ) (placed : List (List ℕ)) (last : Option (List ℕ)) (cut : Cut) → IsCleanForm form → Fine cut
+    → Fine (with_end form total placed last cut)
+with_end_fine form total placed last (Err fault) f h = h
+with_end_fine form total placed last (Ok cut) f h =
+    values_fine (extra_fault form.options (flags_of cut.0) total cut.1) (values_by form placed last cut.0)
+    (extra_fine form.options (flags_of cut.0) total cut.1 f.options)
 
-with_last_fine : (form : Form) (total : ℕ) (before : Option (List ℕ)) (placed : List (List ℕ)) (cut : Cut) → IsCleanForm form → Fine cut
+with_last_fine : (form : Form) (total : ℕ) (before : Given) (placed : List (List ℕ)) (cut : Last) → IsCleanForm form → Fine cut
     → Fine (with_last form total before placed cut)
 with_last_fine form total before placed (Err fault) f h = h
-with_last_fine form total before placed (Ok (last, words)) f h =
-    with_end_fine form total before placed last (cut_end form.option (is_some before) total words) f (end_fine form.option (is_some before) total words f.option)
+with_last_fine form total before placed (Ok cut) f h =
+    with_end_fine form total placed cut.0 (cut_all form.options before total cut.1) f (all_fine form.options before total cut.1 f.options)
 
-with_places_fine : (form : Form) (total : ℕ) (before : Option (List ℕ)) (placed : List (List ℕ)) (cut : Result (List (List ℕ)) Fault) → IsCleanForm form → Fine cut
+with_places_fine : (form : Form) (total : ℕ) (before : Given) (placed : List (List ℕ)) (cut : Result (List (List ℕ)) Fault) → IsCleanForm form → Fine cut
     → Fine (with_places form total before placed cut)
 with_places_fine form total before placed (Err fault) f h = h
 with_places_fine form total before placed (Ok words) f h = with_last_fine form total before placed (cut_last form.last total words) f (last_fine form.last total words f.last)
 
-with_option_fine : (form : Form) (total : ℕ) (cut : Cut) → IsCleanForm form → Fine cut → Fine (with_option form total cut)
-with_option_fine form total (Err fault) f h = h
-with_option_fine form total (Ok (before, words)) f h =
-    with_places_fine form total before words (cut_places form.option (is_some before) total form.places words) f
-    (places_fine form.option (is_some before) total form.places words f.option f.places)
+with_options_fine : (form : Form) (total : ℕ) (cut : Cut) → IsCleanForm form → Fine cut → Fine (with_options form total cut)
+with_options_fine form total (Err fault) f h = h
+with_options_fine form total (Ok cut) f h =
+    with_places_fine form total cut.0 cut.1 (cut_places form.options (flags_of cut.0) total form.places cut.1) f
+    (places_fine form.options (flags_of cut.0) total form.places cut.1 f.options f.places)
 
 read_fine : (form : Form) (words : List (List ℕ)) → IsCleanForm form → Fine (read_by form words)
-read_fine form words f = with_option_fine form (suc (length words)) (cut_option form.option (suc (length words)) words) f (option_fine form.option (suc (length words)) words f.option)
+read_fine form words f =
+    with_options_fine form (suc (length words)) (cut_all form.options none_given (suc (length words)) words) f
+    (all_fine form.options none_given (suc (length words)) words f.options)
 
 -- ---- the forms
 
@@ -291,16 +341,22 @@ last_clean : (last : Option (List ℕ)) → is_plain_name last ≡ true → HasC
 last_clean None h = tt
 last_clean (Some name) h = plain name h
 
-option_clean : (option : Option Choice) → is_plain_choice option ≡ true → HasCleanOption option
-option_clean None h = tt
-option_clean (Some choice) h =
-    let parts = and_both (list_all is_plain choice.flag) (list_all is_plain choice.number.name) h in (plain choice.flag parts.0, plain choice.number.name parts.1)
+kind_clean : (kind : Kind) → is_plain_kind kind ≡ true → HasCleanKind kind
+kind_clean Switch h = tt
+kind_clean (Takes number) h = plain number.name h
+
+options_clean : (options : List Choice) → list_all is_plain_choice options ≡ true → HasCleanOptions options
+options_clean [] h = tt
+options_clean (choice ∷ options) h =
+    let parts = and_both (is_plain_choice choice) (list_all is_plain_choice options) h in
+    let names = and_both (list_all is_plain choice.flag) (is_plain_kind choice.kind) parts.0 in
+    ((plain choice.flag names.0, kind_clean choice.kind names.1), options_clean options parts.1)
 
 form_clean : (form : Form) → is_plain_form form ≡ true → IsCleanForm form
 form_clean form h =
-    let parts = and_both (list_all is_plain_place form.places) (is_plain_name form.last && is_plain_choice form.option) h in
-    let others = and_both (is_plain_name form.last) (is_plain_choice form.option) parts.1 in
-    record { places = places_clean form.places parts.0; last = last_clean form.last others.0; option = option_clean form.option others.1 }
+    let parts = and_both (list_all is_plain_place form.places) (is_plain_name form.last && list_all is_plain_choice form.options) h in
+    let others = and_both (is_plain_name form.last) (list_all is_plain_choice form.options) parts.1 in
+    record { places = places_clean form.places parts.0; last = last_clean form.last others.0; options = options_clean form.options others.1 }
 
 abbrev FineForm : Option Form → Type 0
 FineForm None = ⊤

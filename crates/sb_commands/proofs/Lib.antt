@@ -7,3 +7,5 @@ pub mod NumberLaws
 pub mod WrittenCommands
 pub mod Worked
 mod CleanUsage
+mod OptionSteps
+mod PlacedFiles

@@ -2,7 +2,7 @@
 use Rattle.std.proofs.Common.{◌≡◌, refl, ℕ, List, Option, codes, [], ◌∷◌, ◌++◌, Some, None}
 use Rattle.std.specs.Prelude.{Ok, Err}
 use Rattle.sb_commands.specs.Commands.{command_of}
-use Rattle.sb_commands.specs.Forms.{Choice, form_by, form_with}
+use Rattle.sb_commands.specs.Forms.{Bounded, form_by, form_with}
 use Rattle.sb_commands.specs.Inquiries.{HelpOf, asked_of}
 use Rattle.sb_commands.specs.Usage.{Values, NotUtf8, NoCommand, UnknownCommand, UnknownOption, OptionTwice, OptionBetween, NoOptionNumber, BadOptionNumber, NoFileName, BadNumber, ExtraWord, Missing}
 use Rattle.sb_commands.specs.declared.works.PlainWork.TheVariants.{Audit, Check, Dup, Linked, Local, Replay}
@@ -10,40 +10,40 @@ use Rattle.sb_commands.specs.declared.works.ThreadedWork.TheVariants.{Run}
 use Rattle.sb_commands.specs.declared.works.Work.TheVariants.{Plain, Threaded}
 use Rattle.sb_commands.specs.UsageMessages.{advice, argument_text, fault_text, usage_line, usage_message}
 
-abbrev workers : Choice
-workers = record { flag = codes "workers"; number = record { name = codes "N"; low = 1; high = 8 }; default = 2 }
+abbrev count : Bounded
+count = record { name = codes "N"; low = 1; high = 8 }
 
-abbrev values : List ℕ → List ℕ → List ℕ → Option (List ℕ) → ℕ → Values
-values first second third last option = record { first = first; second = second; third = third; last = last; option = option }
+abbrev values : List ℕ → List ℕ → List ℕ → Option (List ℕ) → Option ℕ → Values
+values first second third last option = record { first = first; second = second; third = third; last = last; first_option = option; second_option = None }
 
-check_is_read : command_of (codes "check" ∷ codes "p" ∷ []) ≡ Ok (record { work = Plain Check; values = values (codes "p") [] [] None 0 })
+check_is_read : command_of (codes "check" ∷ codes "p" ∷ []) ≡ Ok (record { work = Plain Check; values = values (codes "p") [] [] None None })
 check_is_read = refl
 
-schedule_is_read : command_of (codes "replay" ∷ codes "p" ∷ codes "s" ∷ codes "c" ∷ []) ≡ Ok (record { work = Plain Replay; values = values (codes "p") (codes "s") [] (Some (codes "c")) 0 })
+schedule_is_read : command_of (codes "replay" ∷ codes "p" ∷ codes "s" ∷ codes "c" ∷ []) ≡ Ok (record { work = Plain Replay; values = values (codes "p") (codes "s") [] (Some (codes "c")) None })
 schedule_is_read = refl
 
-links_are_read : command_of (codes "linked" ∷ codes "p" ∷ codes "s" ∷ codes "l" ∷ []) ≡ Ok (record { work = Plain Linked; values = values (codes "p") (codes "s") (codes "l") None 0 })
+links_are_read : command_of (codes "linked" ∷ codes "p" ∷ codes "s" ∷ codes "l" ∷ []) ≡ Ok (record { work = Plain Linked; values = values (codes "p") (codes "s") (codes "l") None None })
 links_are_read = refl
 
-moves_are_read : command_of (codes "dup" ∷ codes "p" ∷ codes "s" ∷ codes "m" ∷ []) ≡ Ok (record { work = Plain Dup; values = values (codes "p") (codes "s") (codes "m") None 0 })
+moves_are_read : command_of (codes "dup" ∷ codes "p" ∷ codes "s" ∷ codes "m" ∷ []) ≡ Ok (record { work = Plain Dup; values = values (codes "p") (codes "s") (codes "m") None None })
 moves_are_read = refl
 
-local_is_read : command_of (codes "local" ∷ codes "p" ∷ codes "s" ∷ []) ≡ Ok (record { work = Plain Local; values = values (codes "p") (codes "s") [] None 0 })
+local_is_read : command_of (codes "local" ∷ codes "p" ∷ codes "s" ∷ []) ≡ Ok (record { work = Plain Local; values = values (codes "p") (codes "s") [] None None })
 local_is_read = refl
 
-transcript_is_read : command_of (codes "audit" ∷ codes "p" ∷ codes "s" ∷ codes "t" ∷ []) ≡ Ok (record { work = Plain Audit; values = values (codes "p") (codes "s") (codes "t") None 0 })
+transcript_is_read : command_of (codes "audit" ∷ codes "p" ∷ codes "s" ∷ codes "t" ∷ []) ≡ Ok (record { work = Plain Audit; values = values (codes "p") (codes "s") (codes "t") None None })
 transcript_is_read = refl
 
 links_missing : command_of (codes "linked" ∷ codes "p" ∷ codes "s" ∷ []) ≡ Err (Missing (codes "LINKS"))
 links_missing = refl
 
-two_workers : command_of (codes "run" ∷ codes "p" ∷ codes "s" ∷ []) ≡ Ok (record { work = Threaded Run; values = values (codes "p") (codes "s") [] None 2 })
+two_workers : command_of (codes "run" ∷ codes "p" ∷ codes "s" ∷ []) ≡ Ok (record { work = Threaded Run; values = values (codes "p") (codes "s") [] None (Some 2) })
 two_workers = refl
 
-option_first : command_of (codes "run" ∷ codes "--workers" ∷ codes "3" ∷ codes "p" ∷ codes "s" ∷ []) ≡ Ok (record { work = Threaded Run; values = values (codes "p") (codes "s") [] None 3 })
+option_first : command_of (codes "run" ∷ codes "--workers" ∷ codes "3" ∷ codes "p" ∷ codes "s" ∷ []) ≡ Ok (record { work = Threaded Run; values = values (codes "p") (codes "s") [] None (Some 3) })
 option_first = refl
 
-option_last : command_of (codes "run" ∷ codes "p" ∷ codes "s" ∷ codes "--workers=08" ∷ []) ≡ Ok (record { work = Threaded Run; values = values (codes "p") (codes "s") [] None 8 })
+option_last : command_of (codes "run" ∷ codes "p" ∷ codes "s" ∷ codes "--workers=08" ∷ []) ≡ Ok (record { work = Threaded Run; values = values (codes "p") (codes "s") [] None (Some 8) })
 option_last = refl
 
 nothing : command_of [] ≡ Err NoCommand
@@ -58,16 +58,16 @@ missing = refl
 extra : command_of (codes "check" ∷ codes "p" ∷ codes "q" ∷ []) ≡ Err (ExtraWord 2)
 extra = refl
 
-given_twice : command_of (codes "run" ∷ codes "--workers" ∷ codes "1" ∷ codes "p" ∷ codes "s" ∷ codes "--workers=2" ∷ []) ≡ Err (OptionTwice 5 workers)
+given_twice : command_of (codes "run" ∷ codes "--workers" ∷ codes "1" ∷ codes "p" ∷ codes "s" ∷ codes "--workers=2" ∷ []) ≡ Err (OptionTwice 5 (codes "workers"))
 given_twice = refl
 
-between : command_of (codes "run" ∷ codes "p" ∷ codes "--workers" ∷ codes "2" ∷ codes "s" ∷ []) ≡ Err (OptionBetween 2 workers)
+between : command_of (codes "run" ∷ codes "p" ∷ codes "--workers" ∷ codes "2" ∷ codes "s" ∷ []) ≡ Err (OptionBetween 2 (codes "workers"))
 between = refl
 
-no_number : command_of (codes "run" ∷ codes "p" ∷ codes "s" ∷ codes "--workers" ∷ []) ≡ Err (NoOptionNumber 3 workers)
+no_number : command_of (codes "run" ∷ codes "p" ∷ codes "s" ∷ codes "--workers" ∷ []) ≡ Err (NoOptionNumber (codes "workers") count)
 no_number = refl
 
-bad_number : command_of (codes "run" ∷ codes "p" ∷ codes "s" ∷ codes "--workers=9" ∷ []) ≡ Err (BadOptionNumber 3 10 workers)
+bad_number : command_of (codes "run" ∷ codes "p" ∷ codes "s" ∷ codes "--workers=9" ∷ []) ≡ Err (BadOptionNumber 3 10 (codes "workers") count)
 bad_number = refl
 
 option : command_of (codes "replay" ∷ codes "-x" ∷ []) ≡ Err (UnknownOption 1)
@@ -82,7 +82,7 @@ too_many_targets = refl
 
 -- ---- texts
 
-number_missing : fault_text (NoOptionNumber 3 workers) [] ≡ codes "--workers: N is missing"
+number_missing : fault_text (NoOptionNumber (codes "workers") count) [] ≡ codes "--workers: N is missing"
 number_missing = refl
 
 not_utf8 : usage_message NotUtf8 [] ≡ codes "sandbox: an argument is not UTF-8\n  sandbox help\n" ++ usage_line

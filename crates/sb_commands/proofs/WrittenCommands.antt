@@ -1,24 +1,25 @@
 -- What is written of a command is read back, and what is read can be written.
 use Rattle.std.proofs.Common.{◌≡◌, ◌∙◌, refl, sym, ap, subst, codes, true, false, ℕ, ◌≤◌, ◌<◌, ◌^◌, ◌-◌, Bool, List, [], ◌∷◌, ◌++◌, Option, Some, None, nat_eq, take, drop, if◌then◌else◌, ◌&&◌, not, ◌==◌, true≢false, arith}
-use Rattle.std.specs.Prelude.{⊤, Result, Ok, Err, nat_le, nat_lt, suc, length, option_to_list, IsOkAnd}
+use Rattle.std.specs.Prelude.{⊤, Result, Ok, Err, nat_le, nat_lt, suc, length, option_to_list, slice_get, IsOkAnd}
 use Rattle.std.specs.Fmt.{decimal}
 use Rattle.std.specs.List.{list_all}
-use Rattle.std.specs.Option.{option_or}
 use Rattle.std.specs.Cmp.Lexicographic.{pointwise, bytes_decides}
 use Rattle.std.proofs.lemmas.Bool.Decides.{nat_tests}
 use Rattle.std.proofs.lemmas.List.{drop_all, take_all}
 use Rattle.clap.specs.Words.{Text}
 use Rattle.sb_text.specs.NumberLaws.{DecimalsAreRead}
 use Rattle.sb_text.specs.Numbers.{decimal_of}
-use Rattle.sb_commands.specs.CommandLaws.{IsMake, IsWritable, ReadCommandsAreWritable, WrittenCommandsAreRead, WrittenNumbersAreRead, is_empty, is_file_name, suit_places, suits, suits_last, suits_option, suits_place, written_option, written_places, written_values}
+use Rattle.sb_commands.specs.CommandLaws.{IsMake, IsWritable, ReadCommandsAreWritable, WrittenCommandsAreRead, WrittenNumbersAreRead, is_empty, is_file_name, suit_places, suits, suits_kind, suits_last, suits_option, suits_place, written_option, written_places, written_values}
 use Rattle.sb_commands.specs.Commands.{Command, command_of, placed, threaded, with_form, with_values}
-use Rattle.sb_commands.specs.Forms.{Choice, File, Form, Number, Place, form_by, form_with}
+use Rattle.sb_commands.specs.Forms.{Bounded, Choice, File, Form, Kind, Number, Place, Switch, Takes, Word, form_by, form_with}
 use Rattle.sb_commands.specs.NumberWords.{is_number, is_within, number_of, number_or_zero}
-use Rattle.sb_commands.specs.Usage.{Apart, BadNumber, BadOptionNumber, Cut, Fault, FlagWord, Other, Values, after_dashes, after_flag, at_place, cut_by, cut_last, cut_option, cut_places, dash_fault, flag_word, is_dash, kind_fault, option_number, place_fault, read_after, read_by, unless_fault, with_end, with_last, with_option, with_places}
+use Rattle.sb_text.specs.Steps.{◌>>=◌}
+use Rattle.sb_commands.specs.Usage.{Apart, BadNumber, BadOptionNumber, Cut, Fault, FlagWord, Given, Other, Value, Values, after_dashes, after_flag, at_place, cut_all, cut_found, cut_last, cut_places, dash_fault, flag_word, flags_of, give, is_dash, kind_fault, none_given, option_number, place_fault, read_after, read_by, unless_fault, unless_other, value_by, word_by}
+use Rattle.sb_commands.specs.declared.usage.GivenOptions.{GivenOptions}
 use Rattle.sb_commands.specs.declared.works.ThreadedWork.TheVariants.{Make}
-use Rattle.sb_commands.proofs.Listed.{fits_places, form_is, is_regular, is_short, listed, regular, work_of}
+use Rattle.sb_commands.proofs.Listed.{fits_kind, fits_options, form_is, is_regular, is_short, listed, regular, work_of}
 use Rattle.sb_commands.proofs.NumberLaws.{joined, values_suit}
-use Rattle.sb_commands.proofs.ReadSteps.{IsPlainWord, both, number_is_plain}
+use Rattle.sb_commands.proofs.ReadSteps.{gave, IsPlainWord, both, number_is_plain, with_end, with_last, with_options, with_places}
 
 -- ---- arguments that suit their places
 
@@ -30,36 +31,43 @@ name_is_plain (b ∷ bs) h = record { b = b; bs = bs; word_is = refl; plain = by
     by true h = absurd (true≢false (sym h))
     by false h = refl
 
-suited_is_plain : (place : Place) (word : Text) → suits_place place word ≡ true → IsPlainWord word
-suited_is_plain (File name) word h = name_is_plain word h
-suited_is_plain (Number number) word h = number_is_plain number.low number.high word h
-
 no_dash : (word : Text) → IsPlainWord word → is_dash word ≡ false
 no_dash word p = ap is_dash p.word_is ∙ p.plain
+
+suited_no_dash : (place : Place) (word : Text) → suits_place place word ≡ true → is_dash word ≡ false
+suited_no_dash (File name) word h = no_dash word (name_is_plain word h)
+suited_no_dash (Number number) word h = no_dash word (number_is_plain number.low number.high word h)
+suited_no_dash (Word name) word h = by (is_dash word) h
+  where
+    by : (test : Bool) → not test ≡ true → test ≡ false
+    by true k = absurd (true≢false (sym k))
+    by false k = refl
 
 no_kind_fault : (place : Place) (at : ℕ) (word : Text) → suits_place place word ≡ true → kind_fault place at word ≡ None
 no_kind_fault (File name) at [] h = absurd (true≢false (sym h))
 no_kind_fault (File name) at (b ∷ bs) h = refl
+no_kind_fault (Word name) at word h = refl
 no_kind_fault (Number number) at word h = ap (λ (test : Bool). if test then None else Some (BadNumber at number)) h
 
-no_place_fault : (option : Option Choice) (given : Bool) (at : ℕ) (place : Place) (word : Text) → suits_place place word ≡ true → place_fault option given at place word ≡ None
-no_place_fault option given at place word h =
-    ap (λ (test : Bool). if test then Some (dash_fault option given at word) else kind_fault place at word) (no_dash word (suited_is_plain place word h))
+no_place_fault : (options : List Choice) (given : GivenOptions) (at : ℕ) (place : Place) (word : Text) → suits_place place word ≡ true
+    → place_fault options given at place word ≡ None
+no_place_fault options given at place word h =
+    ap (λ (test : Bool). if test then Some (dash_fault options given at word) else kind_fault place at word) (suited_no_dash place word h)
     ∙ no_kind_fault place at word h
 
 -- ---- places
 
 -- the arguments at places are taken
-places_back : (option : Option Choice) (given : Bool) (total : ℕ) (places : List Place) (words rest : List Text) → suit_places places words ≡ true
-    → cut_places option given total places (written_places places words ++ rest) ≡ Ok rest
-places_back option given total [] words rest h = refl
-places_back option given total (place ∷ places) [] rest h = absurd (true≢false (sym h))
-places_back option given total (place ∷ places) (word ∷ words) rest h =
+places_back : (options : List Choice) (given : GivenOptions) (total : ℕ) (places : List Place) (words rest : List Text) → suit_places places words ≡ true
+    → cut_places options given total places (written_places places words ++ rest) ≡ Ok rest
+places_back options given total [] words rest h = refl
+places_back options given total (place ∷ places) [] rest h = absurd (true≢false (sym h))
+places_back options given total (place ∷ places) (word ∷ words) rest h =
     let parts = both (suits_place place word) (suit_places places words) h in
     let left = written_places places words ++ rest in
-    ap (λ (fault : Option Fault). unless_fault fault (cut_places option given total places left))
-    (no_place_fault option given (total - length (word ∷ left)) place word parts.0)
-    ∙ places_back option given total places words rest parts.1
+    ap (λ (fault : Option Fault). unless_fault fault (cut_places options given total places left))
+    (no_place_fault options given (total - length (word ∷ left)) place word parts.0)
+    ∙ places_back options given total places words rest parts.1
 
 nothing : (word : Text) → is_empty word ≡ true → [] ≡ word
 nothing [] h = refl
@@ -99,16 +107,22 @@ no_dashes (b ∷ c ∷ bs) h = ap (λ (test : Bool). test && ((c == 45) && true)
 no_flag : (flag word : Text) → is_dash word ≡ false → flag_word flag word ≡ Other
 no_flag flag word h = ap (λ (test : Bool). if test then after_dashes flag (drop 2 word) else Other) (no_dashes word h)
 
+other_stays : (kind : Kind) → word_by kind Other ≡ Other
+other_stays Switch = refl
+other_stays (Takes number) = refl
+
 -- no option is before the first argument
-none_before : (option : Option Choice) (total : ℕ) (places : List Place) (words rest : List Text) → fits_places option places ≡ true → suit_places places words ≡ true
-    → cut_option option total (written_places places words ++ rest) ≡ Ok (None, written_places places words ++ rest)
-none_before None total places words rest f h = refl
-none_before (Some choice) total [] words rest f h = absurd (true≢false (sym f))
-none_before (Some choice) total (place ∷ places) [] rest f h = absurd (true≢false (sym h))
-none_before (Some choice) total (place ∷ places) (word ∷ words) rest f h =
+none_before : (options : List Choice) (total : ℕ) (places : List Place) (words rest : List Text) → fits_options options places ≡ true → suit_places places words ≡ true
+    → cut_all options none_given total (written_places places words ++ rest) ≡ Ok (none_given, written_places places words ++ rest)
+none_before [] total places words rest f h = refl
+none_before (choice ∷ []) total [] words rest f h = absurd (true≢false (sym f))
+none_before (choice ∷ []) total (place ∷ places) [] rest f h = absurd (true≢false (sym h))
+none_before (choice ∷ []) total (place ∷ places) (word ∷ words) rest f h =
     let first = (both (suits_place place word) (suit_places places words) h).0 in
-    ap (λ (flag : FlagWord). cut_by choice total word (written_places places words ++ rest) flag)
-    (no_flag choice.flag word (no_dash word (suited_is_plain place word first)))
+    let left = written_places places words ++ rest in
+    ap (λ (found : FlagWord). cut_found none_given total word left (unless_other found 0 choice None))
+    (ap (word_by choice.kind) (no_flag choice.flag word (suited_no_dash place word first)) ∙ other_stays choice.kind)
+none_before (choice ∷ other ∷ options) total places words rest f h = absurd (true≢false (sym f))
 
 -- a text begins with itself
 same_text : (flag : Text) → pointwise nat_eq (take (length flag) flag) flag ≡ true
@@ -121,84 +135,142 @@ flag_back : (flag : Text) → flag_word flag (codes "--" ++ flag) ≡ Apart
 flag_back flag =
     ap (λ (test : Bool). if test then after_flag (drop (length flag) flag) else Other) (same_text flag) ∙ ap after_flag (none_left flag)
 
--- the option after all others, with its number
-abbrev OptionBack : Option Choice → ℕ → Cut → Type 0
-OptionBack option number cut = (value : Option Text) × (cut ≡ Ok (value, [])) × (option_number option (option_or None value) ≡ number)
+-- the options after all others, with their numbers
+abbrev option_words : List Choice → Option ℕ → Option ℕ → List Text
+option_words options first second = written_option (slice_get options 0) first ++ written_option (slice_get options 1) second
 
-zero_is : (number : ℕ) → (number == 0) ≡ true → 0 ≡ number
-zero_is number h = grind (arith, nat_tests, h)
+abbrev OptionsBack : List Choice → Option ℕ → Option ℕ → Cut → Type 0
+OptionsBack options first second cut =
+    (given : Given) × (cut ≡ Ok (given, [])) × (option_number (slice_get options 0) given.first ≡ first) × (option_number (slice_get options 1) given.second ≡ second)
 
-option_back : DecimalsAreRead → (option : Option Choice) (total : ℕ) (places : List Place) (number : ℕ) → fits_places option places ≡ true → suits_option option number ≡ true
-    → OptionBack option number (cut_option option total (written_option option number))
-option_back decimals None total places number f h = (None, refl, zero_is number h)
-option_back decimals (Some choice) total [] number f h = absurd (true≢false (sym f))
-option_back decimals (Some choice) total (place ∷ places) number f h =
-    let low = choice.number.low in
-    let high = choice.number.high in
-    let below : nat_lt high (2 ^ 64) ≡ true = (both (is_within low high (Some choice.default)) (nat_lt high (2 ^ 64)) f).1 in
-    let within : nat_le number high ≡ true = (both (nat_le low number) (nat_le number high) h).1 in
-    let small : number < 2 ^ 64 = grind (arith, nat_tests, below, within) in
-    let read : decimal_of (decimal number) ≡ Some number = (decimals number small).0 in
-    let taken : is_number low high (decimal number) ≡ true = ap (is_within low high) read ∙ h in (
-      Some (decimal number),
-      ap (λ (flag : FlagWord). cut_by choice total (codes "--" ++ choice.flag) (decimal number ∷ []) flag) (flag_back choice.flag)
-          ∙ ap (λ (test : Bool). if test then Ok (Some (decimal number), []) else Err (BadOptionNumber (total - length (decimal number ∷ [])) 0 choice)) taken,
-      ap number_or_zero read,
-    )
+module _ (decimals : DecimalsAreRead) (flag : Text) (number : Bounded) (default : ℕ) (total n : ℕ) where
+  abbrev taking : Choice
+  taking = record { flag = flag; kind = Takes number; default = Some default }
+
+  abbrev flagged : Text
+  flagged = codes "--" ++ flag
+
+  abbrev tested : Bool → Value
+  tested test = if test then Ok (decimal n, []) else Err (BadOptionNumber (total - length (decimal n ∷ [])) 0 flag number)
+
+  taking_back : fits_kind (Takes number) (Some default) ≡ true → suits_kind (Takes number) (Some default) (Some n) ≡ true
+      → OptionsBack (taking ∷ []) (Some n) None (cut_all (taking ∷ []) none_given total (flagged ∷ decimal n ∷ []))
+  taking_back f h =
+      let below : nat_lt number.high (2 ^ 64) ≡ true = (both (is_within number.low number.high (Some default)) (nat_lt number.high (2 ^ 64)) f).1 in
+      let within : nat_le n number.high ≡ true = (both (nat_le number.low n) (nat_le n number.high) h).1 in
+      let small : n < 2 ^ 64 = grind (arith, nat_tests, below, within) in
+      let read : decimal_of (decimal n) ≡ Some n = (decimals n small).0 in
+      let taken : is_number number.low number.high (decimal n) ≡ true = ap (is_within number.low number.high) read ∙ h in (
+        record { first = Some (decimal n); second = None },
+        ap (λ (found : FlagWord). cut_found none_given total flagged (decimal n ∷ []) (unless_other found 0 taking None)) (flag_back flag)
+            ∙ ap (λ (found : FlagWord). gave none_given 0 (value_by flag (Takes number) total flagged (decimal n ∷ []) found)) (flag_back flag)
+            ∙ ap (λ (test : Bool). gave none_given 0 (tested test)) taken,
+        ap (λ m. Some (number_or_zero m)) read,
+        refl,
+      )
+
+kind_back : DecimalsAreRead → (flag : Text) (kind : Kind) (default : Option ℕ) (total : ℕ) (value : Option ℕ) → fits_kind kind default ≡ true
+    → suits_kind kind default value ≡ true
+    → OptionsBack (record { flag = flag; kind = kind; default = default } ∷ []) value None
+    (cut_all (record { flag = flag; kind = kind; default = default } ∷ []) none_given total
+    (option_words (record { flag = flag; kind = kind; default = default } ∷ []) value None))
+kind_back decimals flag (Takes number) (Some default) total (Some n) f h = taking_back decimals flag number default total n f h
+kind_back decimals flag (Takes number) (Some default) total None f h = absurd (true≢false (sym h))
+kind_back decimals flag (Takes number) None total value f h = absurd (true≢false (sym f))
+kind_back decimals flag Switch default total value f h = absurd (true≢false (sym f))
+
+options_back : DecimalsAreRead → (options : List Choice) (total : ℕ) (places : List Place) (first second : Option ℕ) → fits_options options places ≡ true
+    → suits_option (slice_get options 0) first ≡ true → suits_option (slice_get options 1) second ≡ true
+    → OptionsBack options first second (cut_all options none_given total (option_words options first second))
+options_back decimals [] total places None None f h k = (none_given, refl, refl, refl)
+options_back decimals [] total places (Some n) second f h k = absurd (true≢false (sym h))
+options_back decimals [] total places None (Some n) f h k = absurd (true≢false (sym k))
+options_back decimals (choice ∷ []) total [] first second f h k = absurd (true≢false (sym f))
+options_back decimals (choice ∷ []) total (place ∷ places) first (Some n) f h k = absurd (true≢false (sym k))
+options_back decimals (choice ∷ []) total (place ∷ places) first None f h k = kind_back decimals choice.flag choice.kind choice.default total first f h
+options_back decimals (choice ∷ other ∷ options) total places first second f h k = absurd (true≢false (sym f))
+
+-- each begins with `-`
+abbrev begins_with_dash : List Text → Bool
+begins_with_dash [] = true
+begins_with_dash (word ∷ words) = is_dash word
+
+options_dashed : (options : List Choice) (places : List Place) (first second : Option ℕ) → fits_options options places ≡ true
+    → begins_with_dash (option_words options first second) ≡ true
+options_dashed [] places first second f = refl
+options_dashed (choice ∷ []) places None second f = refl
+options_dashed (choice ∷ []) places (Some n) second f = refl
+options_dashed (choice ∷ other ∷ options) places first second f = absurd (true≢false (sym f))
 
 -- ---- the file that may be left out
 
-last_back : (option : Option Choice) (name : Option Text) (total : ℕ) (value : Option Text) (number : ℕ) → suits_last name value ≡ true
-    → cut_last name total (option_to_list value ++ written_option option number) ≡ Ok (value, written_option option number)
-last_back option None total None number h = refl
-last_back option None total (Some word) number h = absurd (true≢false (sym h))
-last_back None (Some name) total None number h = refl
-last_back (Some choice) (Some name) total None number h = refl
-last_back option (Some name) total (Some []) number h = absurd (true≢false (sym h))
-last_back option (Some name) total (Some (b ∷ bs)) number h =
+none_last : (name : Text) (total : ℕ) (words : List Text) → begins_with_dash words ≡ true → cut_last (Some name) total words ≡ Ok (None, words)
+none_last name total [] d = refl
+none_last name total ([] ∷ words) d = absurd (true≢false (sym d))
+none_last name total ((b ∷ bs) ∷ words) d = ap (λ (test : Bool). if test then Ok (None, (b ∷ bs) ∷ words) else Ok (Some (b ∷ bs), words)) d
+
+last_back : (name : Option Text) (total : ℕ) (value : Option Text) (words : List Text) → begins_with_dash words ≡ true → suits_last name value ≡ true
+    → cut_last name total (option_to_list value ++ words) ≡ Ok (value, words)
+last_back None total None words d h = refl
+last_back None total (Some word) words d h = absurd (true≢false (sym h))
+last_back (Some name) total None words d h = none_last name total words d
+last_back (Some name) total (Some []) words d h = absurd (true≢false (sym h))
+last_back (Some name) total (Some (b ∷ bs)) words d h =
     let p = name_is_plain (b ∷ bs) h in
-    ap (λ (test : Bool). if test then Ok (None, (b ∷ bs) ∷ written_option option number) else Ok (Some (b ∷ bs), written_option option number)) (no_dash (b ∷ bs) p)
+    ap (λ (test : Bool). if test then Ok (None, (b ∷ bs) ∷ words) else Ok (Some (b ∷ bs), words)) (no_dash (b ∷ bs) p)
 
 -- ---- any form
 
 module _ (decimals : DecimalsAreRead) (form : Form) (total : ℕ) (values : Values) (good : is_regular form ≡ true) (all : suits form values ≡ true) where
-  fits : fits_places form.option form.places ≡ true
-  fits = (both (is_short form.places) (fits_places form.option form.places) good).1
+  fits : fits_options form.options form.places ≡ true
+  fits = (both (is_short form.places) (fits_options form.options form.places) good).1
+
+  abbrev first_suits : Bool
+  first_suits = suits_option (slice_get form.options 0) values.first_option
+
+  abbrev second_suits : Bool
+  second_suits = suits_option (slice_get form.options 1) values.second_option
 
   placed_suit : suit_places form.places (placed values) ≡ true
-  placed_suit = (both (suit_places form.places (placed values)) (suits_last form.last values.last && suits_option form.option values.option) all).0
+  placed_suit = (both (suit_places form.places (placed values)) (suits_last form.last values.last && (first_suits && second_suits)) all).0
 
-  others : (suits_last form.last values.last ≡ true) × (suits_option form.option values.option ≡ true)
+  others : (suits_last form.last values.last ≡ true) × ((first_suits && second_suits) ≡ true)
   others =
-      both (suits_last form.last values.last) (suits_option form.option values.option)
-      (both (suit_places form.places (placed values)) (suits_last form.last values.last && suits_option form.option values.option) all).1
+      both (suits_last form.last values.last) (first_suits && second_suits)
+      (both (suit_places form.places (placed values)) (suits_last form.last values.last && (first_suits && second_suits)) all).1
 
-  abbrev option_words : List Text
-  option_words = written_option form.option values.option
+  options : (first_suits ≡ true) × (second_suits ≡ true)
+  options = both first_suits second_suits others.1
+
+  abbrev choices : List Text
+  choices = option_words form.options values.first_option values.second_option
 
   abbrev rest : List Text
-  rest = option_to_list values.last ++ option_words
+  rest = option_to_list values.last ++ choices
 
   abbrev words : List Text
   words = written_places form.places (placed values) ++ rest
 
-  last_step : (cut : Cut) → OptionBack form.option values.option cut → with_end form total None words values.last cut ≡ Ok values
-  last_step cut (value, is, number) =
-      ap (with_end form total None words values.last) is
+  last_step : (cut : Cut) → OptionsBack form.options values.first_option values.second_option cut → with_end form total words values.last cut ≡ Ok values
+  last_step cut (given, is, first, second) =
+      ap (with_end form total words values.last) is
       ∙ (λ i. Ok (record {
         first = first_back form.places values.first values.second values.third rest placed_suit i;
         second = second_back form.places values.first values.second values.third rest placed_suit i;
         third = third_back form.places values.first values.second values.third rest placed_suit i;
         last = values.last;
-        option = number i;
+        first_option = first i;
+        second_option = second i;
       }))
 
   values_back : read_after form total words ≡ Ok values
   values_back =
-      ap (with_option form total) (none_before form.option total form.places (placed values) rest fits placed_suit)
-      ∙ ap (with_places form total None words) (places_back form.option false total form.places (placed values) rest placed_suit)
-      ∙ ap (with_last form total None words) (last_back form.option form.last total values.last values.option others.0)
-      ∙ last_step (cut_option form.option total option_words) (option_back decimals form.option total form.places values.option fits others.1)
+      ap (with_options form total) (none_before form.options total form.places (placed values) rest fits placed_suit)
+      ∙ ap (with_places form total none_given words) (places_back form.options (flags_of none_given) total form.places (placed values) rest placed_suit)
+      ∙ ap (with_last form total none_given words)
+      (last_back form.last total values.last choices (options_dashed form.options form.places values.first_option values.second_option fits) others.0)
+      ∙ last_step (cut_all form.options none_given total choices)
+      (options_back decimals form.options total form.places values.first_option values.second_option fits options.0 options.1)
 
 -- ---- any command
 
@@ -240,7 +312,7 @@ number_back decimals n b = ap number_or_zero (decimals n b).0
 
 abbrev make_of : ℕ → ℕ → ℕ → Command
 make_of seed targets calls =
-    threaded Make (record { first = decimal seed; second = decimal targets; third = decimal calls; last = None; option = 0 })
+    threaded Make (record { first = decimal seed; second = decimal targets; third = decimal calls; last = None; first_option = None; second_option = None })
 
 pub numbers_are_read : DecimalsAreRead → WrittenNumbersAreRead
 numbers_are_read decimals seed targets calls s (t1, t8) (c1, c4096) =

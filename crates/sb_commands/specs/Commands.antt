@@ -1,7 +1,7 @@
 -- Which command the arguments are.
-use Rattle.std.specs.Prelude.{ℕ, ◌-◌, ◌==◌, ◌≡◌, ◌≤◌, ⊤, Bool, true, false, List, [], ◌∷◌, ◌++◌, Option, None, Some, if◌then◌else◌, option_map, option_to_list, Result, Ok, Err, IsOk}
+use Rattle.std.specs.Prelude.{ℕ, ◌-◌, ◌==◌, ◌≡◌, ◌≤◌, ⊤, Bool, true, false, List, [], ◌∷◌, ◌++◌, Option, None, Some, if◌then◌else◌, option_map, option_to_list, Result, Ok, Err, IsOk, slice_get}
 use Rattle.std.specs.Borrow.{Bor}
-use Rattle.sb_commands.specs.Forms.{Choice, File, Form, Number, Place, form_by, form_with}
+use Rattle.sb_commands.specs.Forms.{Choice, File, Form, Kind, Number, Place, Switch, Takes, Word, form_by, form_with}
 use Rattle.sb_commands.specs.NumberWords.{number_of}
 use Rattle.sb_commands.specs.Usage.{Fault, NoCommand, UnknownCommand, Values, read_by}
 use Rattle.sb_commands.specs.declared.works.PlainWork.{PlainWork}
@@ -44,17 +44,34 @@ needs_threads (Err fault) = false
 abbrev pub placed : Values → List (List ℕ)
 placed values = values.first ∷ values.second ∷ values.third ∷ []
 
+-- files, and what is at a place after them, if that is a file
+abbrev pub with_file : Place → List ℕ → List (List ℕ) → List (List ℕ)
+with_file (File name) word files = files ++ word ∷ []
+with_file place word files = files
+
+-- the same of a place that there may be
+abbrev pub with_place : Option Place → List ℕ → List (List ℕ) → List (List ℕ)
+with_place None word files = files
+with_place (Some place) word files = with_file place word files
+
 -- the names of the files at places
 abbrev pub files_at : List Place → List (List ℕ) → List (List ℕ)
 files_at [] words = []
 files_at (place ∷ places) [] = []
 files_at (File name ∷ places) (word ∷ words) = word ∷ files_at places words
 files_at (Number number ∷ places) (word ∷ words) = files_at places words
+files_at (Word name ∷ places) (word ∷ words) = files_at places words
 
 -- the file that may be left out, in a form that has one
 abbrev pub last_file : Option (List ℕ) → Option (List ℕ) → List (List ℕ)
 last_file None value = []
 last_file (Some name) value = option_to_list value
+
+-- files, and after them that one
+abbrev pub with_last_file : Option (List ℕ) → Option (List ℕ) → List (List ℕ) → List (List ℕ)
+with_last_file None value files = files
+with_last_file (Some name) None files = files
+with_last_file (Some name) (Some value) files = files ++ value ∷ []
 
 -- the names of the files of a command, in their order in the command
 abbrev pub files_by : Form → Values → List (List ℕ)
@@ -90,6 +107,7 @@ name_at n (name ∷ names) = if n == 1 then name else name_at (n - 1) names
 -- a number is not below the lowest and not above the highest of its place
 abbrev pub IsWithin : Place → List ℕ → Type 0
 IsWithin (File name) word = ⊤
+IsWithin (Word name) word = ⊤
 IsWithin (Number number) word = (number.low ≤ number_of word) × (number_of word ≤ number.high)
 
 abbrev pub AreWithin : List Place → List (List ℕ) → Type 0
@@ -97,14 +115,22 @@ AreWithin [] words = ⊤
 AreWithin (place ∷ places) [] = ⊤
 AreWithin (place ∷ places) (word ∷ words) = IsWithin place word × AreWithin places words
 
-abbrev pub IsOptionWithin : Option Choice → ℕ → Type 0
-IsOptionWithin None value = ⊤
-IsOptionWithin (Some choice) value = (choice.number.low ≤ value) × (value ≤ choice.number.high)
+-- and so is the number of an option that takes one, which it has if there is a default
+abbrev pub IsKindWithin : Kind → Option ℕ → Option ℕ → Type 0
+IsKindWithin Switch default value = ⊤
+IsKindWithin (Takes number) None None = ⊤
+IsKindWithin (Takes number) (Some default) None = ⊥
+IsKindWithin (Takes number) default (Some value) = (number.low ≤ value) × (value ≤ number.high)
+
+abbrev pub IsOptionWithin : Option Choice → Option ℕ → Type 0
+IsOptionWithin None value = value ≡ None
+IsOptionWithin (Some choice) value = IsKindWithin choice.kind choice.default value
 
 -- the numbers of a command are within the bounds of its form
 pub record HasNumbers (command : Command) : Type 0 where
   pub places : AreWithin (form_with command.work).places (placed command.values)
-  pub option : IsOptionWithin (form_with command.work).option command.values.option
+  pub first : IsOptionWithin (slice_get (form_with command.work).options 0) command.values.first_option
+  pub second : IsOptionWithin (slice_get (form_with command.work).options 1) command.values.second_option
 
 -- ---- arguments that are a command
 
@@ -120,7 +146,7 @@ HasValues form (name ∷ words) values = read_by form words ≡ Ok values
 
 -- their values
 abbrev pub no_values : Values
-no_values = record { first = []; second = []; third = []; last = None; option = 0 }
+no_values = record { first = []; second = []; third = []; last = None; first_option = None; second_option = None }
 
 abbrev pub values_or_none : Result Values Fault → Values
 values_or_none (Ok values) = values

@@ -10,6 +10,8 @@ use Rattle.sb_commands.specs.declared.forms.FormNumber.{FormNumber}
 use Rattle.sb_commands.specs.declared.forms.FormOption.{FormOption}
 use Rattle.sb_commands.specs.declared.forms.FormPlace.{FormPlace}
 use Rattle.sb_commands.specs.declared.forms.FormPlace.TheVariants as place
+use Rattle.sb_commands.specs.declared.forms.OptionKind.{OptionKind}
+use Rattle.sb_commands.specs.declared.forms.OptionKind.TheVariants as kind
 use Rattle.sb_commands.specs.declared.help_texts.TheConstants as texts
 use Rattle.sb_commands.specs.declared.linked_help.TheConstants as linked
 use Rattle.sb_commands.specs.declared.local_help.TheConstants as local
@@ -27,30 +29,36 @@ pub record Bounded : Type 0 where
   pub low : ℕ
   pub high : ℕ
 
--- what is at a place: the name of a file, or a number
+-- what is at a place: the name of a file, a number, or any word
 pub data Place : Type 0 where
   File : List ℕ → Place
   Number : Bounded → Place
+  Word : List ℕ → Place
 
--- the option `--FLAG N` or `--FLAG=N`, with its number if it is not given
+-- what an option takes: nothing, or a number, as `--FLAG N` or `--FLAG=N`
+pub data Kind : Type 0 where
+  Switch : Kind
+  Takes : Bounded → Kind
+
+-- an option, with its number if it is not given, if there is such a number
 pub record Choice : Type 0 where
   pub flag : List ℕ
-  pub number : Bounded
-  pub default : ℕ
+  pub kind : Kind
+  pub default : Option ℕ
 
 -- what the help of a command has beside its form: what there is to know and an example, and parts that come last
 pub record Help : Type 0 where
   pub about : List ℕ
   pub after : List (List ℕ)
 
--- a command: what it does, its name, what is at its places, at most three, a file that may be left out, an option, which is before all of these or after
--- them, what the command does in words, and its help
+-- a command: what it does, its name, what is at its places, at most three, a file that may be left out, options, at most two, which are before all of these
+-- or after them, what the command does in words, and its help
 pub record Form : Type 0 where
   pub work : Work
   pub name : List ℕ
   pub places : List Place
   pub last : Option (List ℕ)
-  pub option : Option Choice
+  pub options : List Choice
   pub does : List ℕ
   pub help : Help
 
@@ -61,7 +69,7 @@ form_with (Plain Check) = record {
   name = codes "check";
   places = File (codes "POLICY") ∷ [];
   last = None;
-  option = None;
+  options = [];
   does = codes "print the policies of POLICY, and the code by which calls are judged";
   help = record { about = check.ABOUT.now; after = check.STATUSES.now ∷ [] };
 }
@@ -70,7 +78,7 @@ form_with (Plain Replay) = record {
   name = codes "replay";
   places = File (codes "POLICY") ∷ File (codes "SCRIPT") ∷ [];
   last = Some (codes "SCHEDULE");
-  option = None;
+  options = [];
   does = codes "run SCRIPT under POLICY as SCHEDULE says, and print the transcript";
   help = record { about = replay.ABOUT.now; after = texts.BLOCK_FAULTS.now ∷ replay.STATUSES.now ∷ [] };
 }
@@ -79,7 +87,7 @@ form_with (Threaded Run) = record {
   name = codes "run";
   places = File (codes "POLICY") ∷ File (codes "SCRIPT") ∷ [];
   last = None;
-  option = Some (record { flag = codes "workers"; number = record { name = codes "N"; low = 1; high = 8 }; default = 2 });
+  options = record { flag = codes "workers"; kind = Takes (record { name = codes "N"; low = 1; high = 8 }); default = Some 2 } ∷ [];
   does = codes "run SCRIPT under POLICY on threads, and print the transcript";
   help = record { about = run.ABOUT.now; after = texts.BLOCK_FAULTS.now ∷ run.STATUSES.now ∷ [] };
 }
@@ -92,7 +100,7 @@ form_with (Threaded Make) = record {
       ∷ Number (record { name = codes "CALLS"; low = 1; high = 4096 })
       ∷ [];
   last = None;
-  option = None;
+  options = [];
   does = codes "make a script from SEED, run it on threads, and print its totals";
   help = record { about = make.ABOUT.now; after = make.STATUSES.now ∷ [] };
 }
@@ -101,7 +109,7 @@ form_with (Plain Linked) = record {
   name = codes "linked";
   places = File (codes "POLICY") ∷ File (codes "SCRIPT") ∷ File (codes "LINKS") ∷ [];
   last = None;
-  option = None;
+  options = [];
   does = codes "answer the calls of SCRIPT under POLICY, with the links of LINKS resolved";
   help = record { about = linked.ABOUT.now; after = linked.STATUSES.now ∷ [] };
 }
@@ -110,7 +118,7 @@ form_with (Plain Dup) = record {
   name = codes "dup";
   places = File (codes "POLICY") ∷ File (codes "SCRIPT") ∷ File (codes "MOVES") ∷ [];
   last = None;
-  option = None;
+  options = [];
   does = codes "run SCRIPT under POLICY, then pass handles between targets as MOVES says";
   help = record { about = dup.ABOUT.now; after = texts.BLOCK_FAULTS.now ∷ dup.STATUSES.now ∷ [] };
 }
@@ -119,7 +127,7 @@ form_with (Plain Local) = record {
   name = codes "local";
   places = File (codes "POLICY") ∷ File (codes "SCRIPT") ∷ [];
   last = Some (codes "SCHEDULE");
-  option = None;
+  options = [];
   does = codes "leave out the calls of SCRIPT that POLICY denies, and run the rest";
   help = record { about = local.ABOUT.now; after = texts.BLOCK_FAULTS.now ∷ local.STATUSES.now ∷ [] };
 }
@@ -128,7 +136,7 @@ form_with (Plain Audit) = record {
   name = codes "audit";
   places = File (codes "POLICY") ∷ File (codes "SCRIPT") ∷ File (codes "TRANSCRIPT") ∷ [];
   last = None;
-  option = None;
+  options = [];
   does = codes "check TRANSCRIPT against what the broker promises of SCRIPT under POLICY";
   help = record { about = audit.ABOUT.now; after = audit.CLAUSES.now ∷ audit.STATUSES.now ∷ [] };
 }
@@ -156,9 +164,14 @@ bounded_of n = record { name = n.name.now; low = n.low; high = n.high }
 abbrev pub place_of : FormPlace → Place
 place_of (place.File name) = File name.now
 place_of (place.Number number) = Number (bounded_of number)
+place_of (place.Word name) = Word name.now
+
+abbrev pub kind_of : OptionKind → Kind
+kind_of kind.Switch = Switch
+kind_of (kind.Number number) = Takes (bounded_of number)
 
 abbrev pub choice_of : FormOption → Choice
-choice_of o = record { flag = o.flag.now; number = bounded_of o.number; default = o.default }
+choice_of o = record { flag = o.flag.now; kind = kind_of o.kind; default = o.default }
 
 abbrev pub help_of : CommandHelp → Help
 help_of h = record { about = h.about.now; after = map (λ part. part.now) h.after.now }
@@ -169,7 +182,7 @@ form_of f = record {
   name = f.name.now;
   places = map place_of f.places.now;
   last = option_map (λ name. name.now) f.last;
-  option = option_map choice_of f.option;
+  options = map choice_of f.options.now;
   does = f.does.now;
   help = help_of f.help;
 }

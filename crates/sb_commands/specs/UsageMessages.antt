@@ -6,7 +6,7 @@ use Rattle.std.specs.List.{flat_map}
 use Rattle.sb_glyphs.specs.Glyphs.{shown_bytes}
 use Rattle.sb_glyphs.specs.Tokens.{quoted_bytes}
 use Rattle.sb_text.specs.MissingTexts.{or_empty}
-use Rattle.sb_commands.specs.Forms.{Bounded, Choice, Form, Place, form_by, forms}
+use Rattle.sb_commands.specs.Forms.{Bounded, Choice, Form, Kind, Place, Switch, Takes, form_by, forms}
 use Rattle.sb_commands.specs.Usage.{Fault, NotUtf8, NoCommand, UnknownCommand, UnknownOption, OptionTwice, OptionBetween, NoOptionNumber, BadOptionNumber, NoFileName, BadNumber, ExtraWord, Missing, place_name}
 
 -- ---- the usage line
@@ -20,14 +20,17 @@ abbrev pub last_text : Option (List ℕ) → List ℕ
 last_text None = []
 last_text (Some name) = codes " [" ++ name ++ codes "]"
 
--- ` [--FLAG N]`
-abbrev pub choice_text : Option Choice → List ℕ
-choice_text None = []
-choice_text (Some choice) = codes " [--" ++ choice.flag ++ codes " " ++ choice.number.name ++ codes "]"
+-- ` [--FLAG N]`, or ` [--FLAG]` of a switch
+abbrev pub kind_text : Kind → List ℕ
+kind_text Switch = []
+kind_text (Takes number) = 32 ∷ number.name
+
+abbrev pub choice_text : Choice → List ℕ
+choice_text choice = codes " [--" ++ choice.flag ++ kind_text choice.kind ++ codes "]"
 
 -- `replay POLICY SCRIPT [SCHEDULE]`
 abbrev pub form_text : Form → List ℕ
-form_text form = form.name ++ flat_map place_text form.places ++ last_text form.last ++ choice_text form.option
+form_text form = form.name ++ flat_map place_text form.places ++ last_text form.last ++ flat_map choice_text form.options
 
 -- one form after another
 abbrev pub next_form_text : Form → List ℕ
@@ -96,22 +99,22 @@ abbrev pub wrong_text : List (List ℕ) → List ℕ → ℕ → List ℕ → Li
 wrong_text words name at why = name_text words [] name (codes ": ") ++ quoted_word at words ++ why
 
 -- `--FLAG: `
-abbrev pub flag_text : Choice → List ℕ
-flag_text choice = codes "--" ++ choice.flag ++ codes ": "
+abbrev pub flag_text : List ℕ → List ℕ
+flag_text flag = codes "--" ++ flag ++ codes ": "
 
--- an option, and what is wrong with the name of its number
-abbrev pub number_text : Choice → List ℕ → List ℕ
-number_text choice why = flag_text choice ++ choice.number.name ++ why
+-- the number of an option, and what is wrong with it
+abbrev pub number_text : List ℕ → Bounded → List ℕ → List ℕ
+number_text flag number why = flag_text flag ++ number.name ++ why
 
 abbrev pub fault_text : Fault → List (List ℕ) → List ℕ
 fault_text NotUtf8 words = codes "an argument is not UTF-8"
 fault_text NoCommand words = codes "a command is missing"
 fault_text UnknownCommand words = no_command_text words
 fault_text (UnknownOption at) words = argument_text words (codes "unknown option ") at
-fault_text (OptionTwice at choice) words = name_text words (codes "--") choice.flag (codes " is given twice")
-fault_text (OptionBetween at choice) words = name_text words (codes "--") choice.flag (codes " is not allowed between the files")
-fault_text (NoOptionNumber at choice) words = number_text choice (codes " is missing")
-fault_text (BadOptionNumber at skipped choice) words = flag_text choice ++ quoted_bytes (drop skipped (word_at at words)) ++ bounds_text choice.number
+fault_text (OptionTwice at flag) words = name_text words (codes "--") flag (codes " is given twice")
+fault_text (OptionBetween at flag) words = name_text words (codes "--") flag (codes " is not allowed between the files")
+fault_text (NoOptionNumber flag number) words = number_text flag number (codes " is missing")
+fault_text (BadOptionNumber at skipped flag number) words = flag_text flag ++ quoted_bytes (drop skipped (word_at at words)) ++ bounds_text number
 fault_text (NoFileName at name) words = wrong_text words name at (codes " is not a file name")
 fault_text (BadNumber at number) words = wrong_text words number.name at (bounds_text number)
 fault_text (ExtraWord at) words = argument_text words (codes "extra argument ") at

@@ -9,5 +9,6 @@ values_of v = record {
   second = v.second.now;
   third = v.third.now;
   last = option_map (λ name. name.now) v.last;
-  option = v.option;
+  first_option = v.first_option;
+  second_option = v.second_option;
 }

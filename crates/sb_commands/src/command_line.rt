@@ -1,13 +1,13 @@
 // The command lines as the library that reads them sees them: each for the arguments of one command, whose name is where the name of a program would be.
-ghost use Rattle.std.specs.Prelude.{◌≡◌, IfOk, false, map, option_map};
-ghost use Rattle.clap.specs.Words.{first_value, found_of, rule_of};
-ghost use Rattle.sb_commands.specs.CommandLine.{option_argument, found_values, optional_argument, line_of, names_of, required_argument, with_choice, with_last, with_required};
+ghost use Rattle.std.specs.Prelude.{◌≡◌, IfOk, Some, false, map, option_map};
+ghost use Rattle.clap.specs.Words.{first_value, found_of, rule_of, with_rule};
+ghost use Rattle.sb_commands.specs.CommandLine.{found_values, line_of, names_of, option_argument, option_by, optional_argument, required_argument, with_last, with_options, with_required};
 ghost use Rattle.sb_text.specs.MissingTexts.{or_empty};
 ghost use Rattle.sb_commands.specs.Forms.{choice_of, form_of, place_of};
 ghost use Rattle.sb_commands.specs.Usage.{option_number};
 ghost use Rattle.sb_commands.specs.Values.{values_of};
 
-use crate::forms::{CommandForm, FormOption, FormPlace};
+use crate::forms::{CommandForm, FormOption, FormPlace, OptionKind};
 use crate::line_builder::LineBuilder;
 use crate::number_words::number_of;
 use clap::{Arg, ArgAction, ArgMatches};
@@ -24,8 +24,10 @@ pub struct CommandValues<'a> {
     pub third: &'a str,
     /// The file that may be left out.
     pub last: Option<&'a str>,
-    /// The number of the option, 0 if the command has none.
-    pub option: u64,
+    /// The number of the first option: that which was given, or else its default. A switch that was given has 0.
+    pub first_option: Option<u64>,
+    /// The same of the second.
+    pub second_option: Option<u64>,
 }
 
 // An argument that has to be there.
@@ -44,12 +46,28 @@ fn optional_argument<'a>(alloc: Global, name: &'a str) -> Arg<'a>
     Arg::new(alloc, name).required(false).action(ArgAction::Set)
 }
 
-// An option with a value.
-fn option_argument<'a>(alloc: Global, flag: &'a str) -> Arg<'a>
-    ensures rule { rule_of result ≡ option_argument flag.entry.now }
+// An option, under the library's name for it.
+fn option_argument<'a>(alloc: Global, name: &'a str, option: FormOption<'static>) -> Arg<'a>
+    ensures rule { rule_of result ≡ option_argument name.entry.now (choice_of option.entry) }
     ensures local { result.global ≡ false }
 {
-    Arg::new(alloc, "option").long(flag).action(ArgAction::Set)
+    let action = match option.kind {
+        OptionKind::Switch => ArgAction::SetTrue,
+        OptionKind::Number(_) => ArgAction::Set,
+    };
+    Arg::new(alloc, name).long(option.flag).action(action)
+}
+
+// With an option, under the library's name for it.
+fn with_option<'a>(
+    alloc: Global,
+    line: LineBuilder<'a>,
+    name: &'a str,
+    option: FormOption<'static>,
+) -> Result<LineBuilder<'a>, AllocError>
+    ensures { IfOk result (λ l. l ≡ with_rule line.entry (option_argument name.entry.now (choice_of option.entry))) }
+{
+    line.with(option_argument(alloc, name, option))
 }
 
 // The names of the arguments at places.
@@ -93,16 +111,20 @@ fn with_last<'a>(
     }
 }
 
-// With the option.
-fn with_choice<'a>(
+// With the options.
+fn with_options<'a>(
     alloc: Global,
     line: LineBuilder<'a>,
-    option: Option<FormOption<'static>>,
+    options: &[FormOption<'static>],
 ) -> Result<LineBuilder<'a>, AllocError>
-    ensures { IfOk result (λ l. l ≡ with_choice (option_map choice_of option.entry) line.entry) }
+    ensures { IfOk result (λ l. l ≡ with_options (map choice_of options.now) line.entry) }
 {
-    match option {
-        Some(option) => line.with(option_argument(alloc, option.flag)),
+    let Some((first, others)) = options.split_first() else {
+        return Ok(line);
+    };
+    let line = with_option(alloc, line, "first-option", *first)?;
+    match others.split_first() {
+        Some((second, _)) => with_option(alloc, line, "second-option", *second),
         None => Ok(line),
     }
 }
@@ -120,7 +142,7 @@ pub(crate) fn line_of<'a>(
     let line = LineBuilder::new(alloc);
     let line = with_required(alloc, line, names_of(form.places))?;
     let line = with_last(alloc, line, form.last)?;
-    with_choice(alloc, line, form.option)
+    with_options(alloc, line, form.options)
 }
 
 // The text of an argument, empty if there is none.
@@ -133,15 +155,34 @@ fn text_of<'a>(values: &ArgMatches<'a>, name: &str) -> &'a str
     }
 }
 
-// The number of the option, by its argument if it is given.
-fn option_number(option: Option<FormOption<'static>>, word: Option<&str>) -> u64
-    ensures { result ≡ option_number (option_map choice_of option.entry) (option_map (λ w. w.now) word.entry) }
+// The number of an option, by what the library found for it, or else its default.
+fn number_found(option: FormOption<'static>, found: Option<&str>) -> Option<u64>
+    ensures { result ≡ option_by (Some (choice_of option.entry)) (option_map (λ word. word.now) found.entry) }
 {
-    match (option, word) {
-        (None, _) => 0,
-        (Some(option), None) => option.default,
-        (Some(_), Some(word)) => number_of(word),
+    let Some(word) = found else {
+        return option.default;
+    };
+    match option.kind {
+        OptionKind::Number(_) => Some(number_of(word)),
+        OptionKind::Switch => {
+            if word == "true" {
+                return Some(0);
+            }
+            option.default
+        }
     }
+}
+
+// The number of an option under this name, if there is such an option.
+fn option_number(
+    option: Option<&FormOption<'static>>,
+    values: &ArgMatches<'_>,
+    name: &str,
+) -> Option<u64>
+    ensures { result ≡ option_by (option_map (λ o. choice_of o.now) option.entry) (first_value (found_of values.now) name.now) }
+{
+    let option = option?;
+    number_found(*option, values.get_str(name))
 }
 
 /// The values that the library found by the command line of a form.
@@ -156,6 +197,7 @@ pub(crate) fn found_values<'a>(
         second: text_of(values, "second"),
         third: text_of(values, "third"),
         last: values.get_str("last"),
-        option: option_number(form.option, values.get_str("option")),
+        first_option: option_number(form.options.first(), values, "first-option"),
+        second_option: option_number(form.options.get(1), values, "second-option"),
     }
 }

@@ -1,18 +1,17 @@
 // Which command the arguments are.
 ghost use Rattle.std.specs.Prelude.{◌≡◌, IfOk, MatchResult, Ok, Err};
-ghost use Rattle.sb_commands.specs.Commands.{HasNumbers, HasValues, IsCommandOf, command_of, files_of, name_at};
+ghost use Rattle.sb_commands.specs.Commands.{HasNumbers, HasValues, IsCommandOf, command_of, files_of};
 ghost use Rattle.sb_commands.specs.Forms.{form_of};
 ghost use Rattle.sb_commands.specs.Usage.{fault_of, texts};
 ghost use Rattle.sb_commands.specs.Values.{values_of};
 ghost use Rattle.sb_commands.specs.declared.works.Work.TheVariants.{Threaded};
 
 use crate::command_line::{CommandValues, found_values, line_of};
-use crate::file_names::file_name;
+use crate::file_names::FileNames;
 use crate::forms::{CommandForm, form_by};
 use crate::usage::usage_test;
 use crate::usage_faults::UsageFault;
 use crate::works::{ThreadedWork, Work};
-use clap::error::ErrorKind;
 use sb_base::NoMemory;
 use std::alloc::Global;
 use std::marker::Model;
@@ -29,11 +28,8 @@ fn read_values<'a>(
     let line = line_of(alloc, form)?;
     match line.into_command().try_get_matches_from(words) {
         Ok(values) => Ok(found_values(form, &values)),
-        Err(error) => match error.kind() {
-            ErrorKind::OutOfMemory => Err(NoMemory),
-            // The library takes all arguments that are a command.
-            _ => unreachable!(),
-        },
+        // The library takes all arguments that are a command, if it has the memory.
+        Err(_) => Err(NoMemory),
     }
 }
 
@@ -75,17 +71,12 @@ impl<'a> CommandWords<'a> {
         read_values(alloc, self.form, self.words)
     }
 
-    /// The name of file `which` of the command, from 1; empty if there is no such file.
-    ///
-    /// # Errors
-    /// `NoMemory` if there was none to read the arguments.
-    pub fn file_name(&self, alloc: Global, which: u8) -> Result<&'a str, NoMemory>
-        ensures { IfOk result (λ name. name.now ≡ name_at which (files_of self.now)) }
+    /// The names of its files, by these values.
+    pub fn files(&self, values: CommandValues<'a>) -> FileNames<'a>
+        requires { values_of values ≡ self.now.values }
+        ensures { result ≡ files_of self.now }
     {
-        match self.values(alloc) {
-            Ok(values) => Ok(file_name(self.form, values, which)),
-            Err(NoMemory) => Err(NoMemory),
-        }
+        FileNames::of(self.form, values)
     }
 }
 
@@ -133,6 +124,14 @@ impl<'a> ThreadedWords<'a> {
         ensures numbers { HasNumbers self.now }
     {
         self.words.values(alloc)
+    }
+
+    /// The names of its files, by these values.
+    pub fn files(&self, values: CommandValues<'a>) -> FileNames<'a>
+        requires { values_of values ≡ self.now.values }
+        ensures { result ≡ files_of self.now }
+    {
+        self.words.files(values)
     }
 }
 

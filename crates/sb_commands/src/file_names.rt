@@ -1,61 +1,108 @@
-// The names of a command's files, by their places among its files.
-ghost use Rattle.std.specs.Prelude.{◌≡◌, ◌++◌, map, option_map};
-ghost use Rattle.sb_commands.specs.Commands.{files_at, files_by, last_file, name_at};
+// The names of a command's files, in their order in the command.
+ghost use Rattle.std.specs.Prelude.{◌≡◌, ◌<◌, ◌≤◌, ◌+◌, ◌++◌, ◌∷◌, [], length, map, option_map};
+ghost use Rattle.sb_commands.specs.Commands.{files_by, name_at, with_last_file, with_place};
 ghost use Rattle.sb_commands.specs.Forms.{form_of, place_of};
 ghost use Rattle.sb_commands.specs.Values.{values_of};
 
 use crate::command_line::CommandValues;
 use crate::forms::{CommandForm, FormPlace};
+use std::marker::Model;
 
-// The file that may be left out, if it is file `which` of those that are left.
-fn last_name<'a>(last: Option<&'static str>, value: Option<&'a str>, which: u8) -> &'a str
-    ensures { result.now ≡ name_at which (last_file (option_map (λ name. name.now) last.entry) (option_map (λ name. name.now) value.entry)) }
-{
-    match (last, value) {
-        (Some(_), Some(name)) if which == 1 => name,
-        _ => "",
-    }
+/// The most files that a command has.
+pub const MAX_FILES: usize = 4;
+
+/// The names of a command's files, in their order in the command. Contracts see these.
+#[derive(Drop)]
+pub struct FileNames<'a> {
+    names: [&'a str; MAX_FILES],
+    count: usize,
 }
 
-// File `which` of those at places and the one that may be left out.
-fn placed_name<'a>(
-    places: &[FormPlace<'static>],
-    words: &[&'a str],
-    which: u8,
-    last: Option<&'static str>,
-    value: Option<&'a str>,
-) -> &'a str
-    ensures { result.now ≡ name_at which (files_at (map place_of places.now) (map (λ word. word.now) words.now)
-        ++ last_file (option_map (λ name. name.now) last.entry) (option_map (λ name. name.now) value.entry)) }
-{
-    match (places.split_first(), words.split_first()) {
-        (Some((place, other_places)), Some((word, other_words))) => match *place {
-            FormPlace::File(_) => {
-                if which == 1 {
-                    return *word;
-                }
-                placed_name(
-                    other_places,
-                    other_words,
-                    which.saturating_sub(1),
-                    last,
-                    value,
-                )
+impl<'a> Model for FileNames<'a> {
+    ghost use Rattle.std.specs.Prelude.{List, ℕ, ◌≤◌, map, take};
+
+    ghost Value = { List (List ℕ) };
+
+    ghost view = { λ files. map (λ name. name.now) (take files.count files.names) };
+
+    ghost invariant = { λ files. files.count ≤ 4 };
+}
+
+impl<'a> FileNames<'a> {
+    /// No files.
+    pub fn none() -> FileNames<'a>
+        ensures { result ≡ [] }
+    {
+        FileNames {
+            names: [""; MAX_FILES],
+            count: 0,
+        }
+    }
+
+    // One file more.
+    fn push(&mut self, name: &'a str)
+        requires room { length self.old < 4 }
+        ensures { self.new ≡ self.old ++ name.entry.now ∷ [] }
+    {
+        self.names[self.count] = name;
+        self.count += 1;
+    }
+
+    // What is at a place, if there is such a place, and it is that of a file.
+    fn push_at(&mut self, place: Option<&FormPlace<'static>>, word: &'a str)
+        requires room { length self.old < 4 }
+        ensures names { self.new ≡ with_place (option_map (λ p. place_of p.now) place.entry) word.entry.now self.old }
+        ensures room { length self.new ≤ length self.old + 1 }
+    {
+        if let Some(FormPlace::File(_)) = place {
+            self.push(word);
+        }
+    }
+
+    // The file that may be left out, in a form that has one.
+    fn push_last(&mut self, last: Option<&'static str>, name: Option<&'a str>)
+        requires room { length self.old < 4 }
+        ensures { self.new ≡ with_last_file (option_map (λ n. n.now) last.entry) (option_map (λ n. n.now) name.entry) self.old }
+    {
+        if last.is_none() {
+            return;
+        }
+        if let Some(name) = name {
+            self.push(name);
+        }
+    }
+
+    /// The files of a command of this form with these values.
+    pub(crate) fn of(form: CommandForm<'static>, values: CommandValues<'a>) -> FileNames<'a>
+        ensures { result ≡ files_by (form_of form.entry) (values_of values.entry) }
+    {
+        let mut files = FileNames::none();
+        files.push_at(form.places.first(), values.first);
+        files.push_at(form.places.get(1), values.second);
+        files.push_at(form.places.get(2), values.third);
+        files.push_last(form.last, values.last);
+        files
+    }
+
+    /// All names.
+    pub fn as_slice(&self) -> &[&'a str]
+        ensures { map (λ name. name.now) result.now ≡ self.now }
+    {
+        &self.names[..self.count]
+    }
+
+    /// The name of file `which`, from 1; empty if there is no such file.
+    pub fn name(&self, which: u8) -> &'a str
+        ensures { result.now ≡ name_at which self.now }
+    {
+        let names = self.as_slice();
+        let mut place = which;
+        for name in names {
+            if place == 1 {
+                return *name;
             }
-            FormPlace::Number(_) => placed_name(other_places, other_words, which, last, value),
-        },
-        _ => last_name(last, value, which),
+            place = place.saturating_sub(1);
+        }
+        ""
     }
-}
-
-/// The name of file `which` of a command of this form with these values, from 1; empty if there is no such file.
-pub(crate) fn file_name<'a>(
-    form: CommandForm<'static>,
-    values: CommandValues<'a>,
-    which: u8,
-) -> &'a str
-    ensures { result.now ≡ name_at which (files_by (form_of form.entry) (values_of values.entry)) }
-{
-    let words = [values.first, values.second, values.third];
-    placed_name(form.places, &words, which, form.last, values.last)
 }

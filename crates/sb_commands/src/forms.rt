@@ -27,17 +27,28 @@ pub enum FormPlace<'a> {
     File(&'a str),
     /// A number.
     Number(FormNumber<'a>),
+    /// Any word.
+    Word(&'a str),
 }
 
-/// An option with a number: `--FLAG N` or `--FLAG=N`.
+/// What an option takes.
+#[derive(Clone, Copy)]
+pub enum OptionKind<'a> {
+    /// Nothing: it is given or not.
+    Switch,
+    /// A number: `--FLAG N` or `--FLAG=N`.
+    Number(FormNumber<'a>),
+}
+
+/// An option.
 #[derive(Clone, Copy)]
 pub struct FormOption<'a> {
     /// Its name without `--`.
     pub flag: &'a str,
-    /// Its number.
-    pub number: FormNumber<'a>,
-    /// The number if the option is not given.
-    pub default: u64,
+    /// What it takes.
+    pub kind: OptionKind<'a>,
+    /// Its number if it is not given, if there is such a number.
+    pub default: Option<u64>,
 }
 
 /// What the help of a command has beside its form and the faults of its files.
@@ -60,8 +71,8 @@ pub struct CommandForm<'a> {
     pub places: &'a [FormPlace<'a>],
     /// A file that may be left out, after the places.
     pub last: Option<&'a str>,
-    /// An option, which is before the places or after all files.
-    pub option: Option<FormOption<'a>>,
+    /// The options, at most two. Each is before the places or after all files, and is given once at most.
+    pub options: &'a [FormOption<'a>],
     /// What the command does, in one line.
     pub does: &'a str,
     /// What its help has beside this.
@@ -77,7 +88,7 @@ const CHECK: CommandForm<'static> = CommandForm {
     name: "check",
     places: &[POLICY],
     last: None,
-    option: None,
+    options: &[],
     does: "print the policies of POLICY, and the code by which calls are judged",
     help: check_help::HELP,
 };
@@ -87,7 +98,7 @@ const REPLAY: CommandForm<'static> = CommandForm {
     name: "replay",
     places: &[POLICY, SCRIPT],
     last: Some("SCHEDULE"),
-    option: None,
+    options: &[],
     does: "run SCRIPT under POLICY as SCHEDULE says, and print the transcript",
     help: replay_help::HELP,
 };
@@ -97,15 +108,15 @@ const RUN: CommandForm<'static> = CommandForm {
     name: "run",
     places: &[POLICY, SCRIPT],
     last: None,
-    option: Some(FormOption {
+    options: &[FormOption {
         flag: "workers",
-        number: FormNumber {
+        kind: OptionKind::Number(FormNumber {
             name: "N",
             low: 1,
             high: 8,
-        },
-        default: 2,
-    }),
+        }),
+        default: Some(2),
+    }],
     does: "run SCRIPT under POLICY on threads, and print the transcript",
     help: run_help::HELP,
 };
@@ -131,7 +142,7 @@ const MAKE: CommandForm<'static> = CommandForm {
         }),
     ],
     last: None,
-    option: None,
+    options: &[],
     does: "make a script from SEED, run it on threads, and print its totals",
     help: make_help::HELP,
 };
@@ -141,7 +152,7 @@ const LINKED: CommandForm<'static> = CommandForm {
     name: "linked",
     places: &[POLICY, SCRIPT, FormPlace::File("LINKS")],
     last: None,
-    option: None,
+    options: &[],
     does: "answer the calls of SCRIPT under POLICY, with the links of LINKS resolved",
     help: linked_help::HELP,
 };
@@ -151,7 +162,7 @@ const DUP: CommandForm<'static> = CommandForm {
     name: "dup",
     places: &[POLICY, SCRIPT, FormPlace::File("MOVES")],
     last: None,
-    option: None,
+    options: &[],
     does: "run SCRIPT under POLICY, then pass handles between targets as MOVES says",
     help: dup_help::HELP,
 };
@@ -161,7 +172,7 @@ const LOCAL: CommandForm<'static> = CommandForm {
     name: "local",
     places: &[POLICY, SCRIPT],
     last: Some("SCHEDULE"),
-    option: None,
+    options: &[],
     does: "leave out the calls of SCRIPT that POLICY denies, and run the rest",
     help: local_help::HELP,
 };
@@ -171,7 +182,7 @@ const AUDIT: CommandForm<'static> = CommandForm {
     name: "audit",
     places: &[POLICY, SCRIPT, FormPlace::File("TRANSCRIPT")],
     last: None,
-    option: None,
+    options: &[],
     does: "check TRANSCRIPT against what the broker promises of SCRIPT under POLICY",
     help: audit_help::HELP,
 };

@@ -26,9 +26,10 @@ mod works;
 
 pub use command_line::CommandValues;
 pub use commands::{CommandWords, ThreadedWords, command_of};
+pub use file_names::{FileNames, MAX_FILES};
 pub use forms::{
-    CommandForm, CommandHelp, FormNumber, FormOption, FormPlace, all_works, form_by, form_with,
-    forms_text,
+    CommandForm, CommandHelp, FormNumber, FormOption, FormPlace, OptionKind, all_works, form_by,
+    form_with, forms_text,
 };
 pub use inquiries::{Inquiry, inquiry_of, inquiry_text};
 pub use laws::{commands_are_read, usage_messages_are_clean};

@@ -1,9 +1,9 @@
 // How the arguments after a command's name are tested against its form: the first fault from left to right.
-ghost use Rattle.std.specs.Prelude.{◌≡◌, ◌-◌, map, option_map, length};
-ghost use Rattle.sb_commands.specs.Forms.{choice_of, form_of, place_of};
-ghost use Rattle.sb_commands.specs.Usage.{IsCut, IsLeft, IsTested, after_dashes, after_flag, cut_apart, cut_end, cut_joined, cut_last, cut_option, cut_places, dash_fault, extra_fault, extra_in, fault_of, flag_of, flag_word, is_dash, kind_fault, place_fault, place_name, read_after, texts};
+ghost use Rattle.std.specs.Prelude.{◌≡◌, ◌-◌, false, length, map, option_map, string_bytes};
+ghost use Rattle.sb_commands.specs.Forms.{bounded_of, choice_of, form_of, place_of};
+ghost use Rattle.sb_commands.specs.Usage.{Given, IsCut, IsLeft, IsTested, after_dashes, after_flag, cut_all, cut_apart, cut_joined, cut_last, cut_option, cut_places, cut_value, dash_fault, extra_fault, fault_of, flag_of, flag_word, flags_of, is_dash, is_given, kind_fault, left_of, option_of, place_fault, place_name, read_after, texts, with_given, word_as};
 
-use crate::forms::{CommandForm, FormOption, FormPlace};
+use crate::forms::{CommandForm, FormNumber, FormOption, FormPlace, OptionKind};
 use crate::number_words::is_number;
 use crate::usage_faults::UsageFault;
 
@@ -57,6 +57,71 @@ fn is_dash(word: &[u8]) -> bool
     }
 }
 
+// Which options of a form were given.
+#[derive(Clone, Copy)]
+pub(crate) struct GivenOptions {
+    first: bool,
+    second: bool,
+}
+
+impl GivenOptions {
+    // None.
+    fn none() -> GivenOptions
+        ensures { result ≡ record { first = false; second = false } }
+    {
+        GivenOptions {
+            first: false,
+            second: false,
+        }
+    }
+
+    // Whether the option of this number was given, from 0.
+    fn has(self, number: usize) -> bool
+        ensures { result ≡ is_given number self }
+    {
+        if number == 0 { self.first } else { self.second }
+    }
+
+    // The same and the option of this number.
+    fn with(self, number: usize) -> GivenOptions
+        ensures { result ≡ with_given number self }
+    {
+        if number == 0 {
+            return GivenOptions {
+                first: true,
+                ..self
+            };
+        }
+        GivenOptions {
+            second: true,
+            ..self
+        }
+    }
+}
+
+// An argument as an option of this form: with its number in the next argument or in its own, if it takes one.
+fn word_as<'a>(option: FormOption<'static>, word: &'a [u8]) -> OptionWord<'a>
+    ensures { flag_of result ≡ word_as (choice_of option.entry) word.now }
+{
+    match (option.kind, flag_word(option.flag, word)) {
+        (OptionKind::Switch, OptionWord::Joined(_)) => OptionWord::Other,
+        (_, found) => found,
+    }
+}
+
+// The first option that an argument is, with its number from 0.
+fn option_of(options: &[FormOption<'static>], word: &[u8]) -> Option<(usize, FormOption<'static>)>
+    ensures { option_map (λ o. (o.0, choice_of o.1)) result ≡ option_of (map choice_of options.now) word.now }
+{
+    for (number, option) in options.iter().enumerate() {
+        match word_as(*option, word) {
+            OptionWord::Other => {}
+            _ => return Some((number, *option)),
+        }
+    }
+    None
+}
+
 // The place of the first of the arguments left.
 fn place_at(total: usize, left: &[String]) -> usize
     ensures { result ≡ total - length (texts left.now) }
@@ -64,83 +129,122 @@ fn place_at(total: usize, left: &[String]) -> usize
     total.saturating_sub(left.len())
 }
 
-// Takes the option's number, which is the next argument.
+// Takes the number of the option, which is the next argument.
 fn cut_apart<'w>(
-    option: FormOption<'static>,
+    flag: &'static str,
+    number: FormNumber<'static>,
     total: usize,
     words: &'w [String],
-) -> Result<(bool, &'w [String]), UsageFault>
-    ensures { IsCut (cut_apart (choice_of option.entry) total (texts words.now)) result }
+) -> Result<&'w [String], UsageFault>
+    ensures { IsLeft (left_of (cut_apart flag.entry.now (bounded_of number.entry) total (texts words.now))) result }
 {
     match words.split_first() {
-        None => Err(UsageFault::NoOptionNumber(total.saturating_sub(1), option)),
+        None => Err(UsageFault::NoOptionNumber(flag, number)),
         Some((word, later)) => {
-            if is_number(option.number.low, option.number.high, word.as_bytes()) {
-                return Ok((true, later));
+            if is_number(number.low, number.high, word.as_bytes()) {
+                return Ok(later);
             }
-            Err(UsageFault::BadOptionNumber(place_at(total, words), 0, option))
+            let at = place_at(total, words);
+            Err(UsageFault::BadOptionNumber(at, 0, flag, number))
         }
     }
 }
 
-// Takes the option's number, which is in its own argument, the last before `later`.
+// Takes the number of the option, which is in its own argument, the last before `later`.
 fn cut_joined<'w>(
-    option: FormOption<'static>,
+    flag: &'static str,
+    number: FormNumber<'static>,
     total: usize,
     word: &str,
     later: &'w [String],
     value: &[u8],
-) -> Result<(bool, &'w [String]), UsageFault>
-    ensures { IsCut (cut_joined (choice_of option.entry) total word.now (texts later.now) value.now) result }
+) -> Result<&'w [String], UsageFault>
+    ensures { IsLeft (left_of (cut_joined flag.entry.now (bounded_of number.entry) total word.now (texts later.now) value.now)) result }
 {
-    if is_number(option.number.low, option.number.high, value) {
-        return Ok((true, later));
+    if is_number(number.low, number.high, value) {
+        return Ok(later);
     }
+    let at = place_at(total, later).saturating_sub(1);
     let skipped = word.len().saturating_sub(value.len());
-    Err(UsageFault::BadOptionNumber(
-        total.saturating_sub(later.len()).saturating_sub(1),
-        skipped,
-        option,
-    ))
+    Err(UsageFault::BadOptionNumber(at, skipped, flag, number))
 }
 
-// Takes the option, if the next argument is it.
+// Takes an option that this argument is, with its number, if it takes one.
+fn cut_value<'w>(
+    option: FormOption<'static>,
+    total: usize,
+    word: &String,
+    later: &'w [String],
+) -> Result<&'w [String], UsageFault>
+    ensures { IsLeft (left_of (cut_value (choice_of option.entry) total (string_bytes word.now) (texts later.now))) result }
+{
+    let flag = option.flag;
+    match (option.kind, flag_word(flag, word.as_bytes())) {
+        (OptionKind::Number(number), OptionWord::Apart) => cut_apart(flag, number, total, later),
+        (OptionKind::Number(number), OptionWord::Joined(value)) => {
+            cut_joined(flag, number, total, word.as_str(), later, value)
+        }
+        _ => Ok(later),
+    }
+}
+
+// Takes the next argument, if it is an option that was not given before.
 fn cut_option<'w>(
-    option: Option<FormOption<'static>>,
+    options: &[FormOption<'static>],
+    given: GivenOptions,
     total: usize,
     words: &'w [String],
-) -> Result<(bool, &'w [String]), UsageFault>
-    ensures { IsCut (cut_option (option_map choice_of option.entry) total (texts words.now)) result }
+) -> Result<(GivenOptions, &'w [String]), UsageFault>
+    ensures { (g : Given) → flags_of g ≡ given → IsCut (cut_option (map choice_of options.now) g total (texts words.now)) result }
 {
-    let Some(option) = option else {
-        return Ok((false, words));
-    };
     let Some((word, later)) = words.split_first() else {
-        return Ok((false, words));
+        return Ok((given, words));
     };
-    match flag_word(option.flag, word.as_bytes()) {
-        OptionWord::Apart => cut_apart(option, total, later),
-        OptionWord::Joined(value) => cut_joined(option, total, word.as_str(), later, value),
-        OptionWord::Other => Ok((false, words)),
+    match option_of(options, word.as_bytes()) {
+        Some((number, option)) if !given.has(number) => {
+            let left = cut_value(option, total, word, later)?;
+            Ok((given.with(number), left))
+        }
+        _ => Ok((given, words)),
+    }
+}
+
+// Takes options as long as the next argument is one that was not given before: of one option or two, each at most once.
+fn cut_options<'w>(
+    options: &[FormOption<'static>],
+    given: GivenOptions,
+    total: usize,
+    words: &'w [String],
+) -> Result<(GivenOptions, &'w [String]), UsageFault>
+    ensures { (g : Given) → flags_of g ≡ given → IsCut (cut_all (map choice_of options.now) g total (texts words.now)) result }
+{
+    match options {
+        [] => Ok((given, words)),
+        [_] => cut_option(options, given, total, words),
+        _ => {
+            let (given, left) = cut_option(options, given, total, words)?;
+            cut_option(options, given, total, left)
+        }
     }
 }
 
 // The fault of an argument that begins with `-` where no option is allowed.
 fn dash_fault(
-    option: Option<FormOption<'static>>,
-    given: bool,
+    options: &[FormOption<'static>],
+    given: GivenOptions,
     at: usize,
     word: &[u8],
 ) -> UsageFault
-    ensures { fault_of result ≡ dash_fault (option_map choice_of option.entry) given at word.now }
+    ensures { fault_of result ≡ dash_fault (map choice_of options.now) given at word.now }
 {
-    let Some(option) = option else {
-        return UsageFault::UnknownOption(at);
-    };
-    match flag_word(option.flag, word) {
-        OptionWord::Other => UsageFault::UnknownOption(at),
-        _ if given => UsageFault::OptionTwice(at, option),
-        _ => UsageFault::OptionBetween(at, option),
+    match option_of(options, word) {
+        None => UsageFault::UnknownOption(at),
+        Some((number, option)) => {
+            if given.has(number) {
+                return UsageFault::OptionTwice(at, option.flag);
+            }
+            UsageFault::OptionBetween(at, option.flag)
+        }
     }
 }
 
@@ -149,6 +253,7 @@ fn kind_fault(place: FormPlace<'static>, at: usize, word: &[u8]) -> Option<Usage
     ensures { option_map fault_of result ≡ kind_fault (place_of place.entry) at word.now }
 {
     match place {
+        FormPlace::Word(_) => None,
         FormPlace::File(name) => match word {
             [] => Some(UsageFault::NoFileName(at, name)),
             _ => None,
@@ -164,16 +269,16 @@ fn kind_fault(place: FormPlace<'static>, at: usize, word: &[u8]) -> Option<Usage
 
 // The fault of an argument at a place.
 fn place_fault(
-    option: Option<FormOption<'static>>,
-    given: bool,
+    options: &[FormOption<'static>],
+    given: GivenOptions,
     at: usize,
     place: FormPlace<'static>,
     word: &[u8],
 ) -> Option<UsageFault>
-    ensures { option_map fault_of result ≡ place_fault (option_map choice_of option.entry) given at (place_of place.entry) word.now }
+    ensures { option_map fault_of result ≡ place_fault (map choice_of options.now) given at (place_of place.entry) word.now }
 {
     if is_dash(word) {
-        return Some(dash_fault(option, given, at, word));
+        return Some(dash_fault(options, given, at, word));
     }
     kind_fault(place, at, word)
 }
@@ -183,28 +288,27 @@ pub(crate) fn place_name(place: FormPlace<'static>) -> &'static str
     ensures { result.now ≡ place_name (place_of place.entry) }
 {
     match place {
-        FormPlace::File(name) => name,
+        FormPlace::File(name) | FormPlace::Word(name) => name,
         FormPlace::Number(number) => number.name,
     }
 }
 
 // The arguments after those at the places.
 fn cut_places<'w>(
-    option: Option<FormOption<'static>>,
-    given: bool,
+    form: CommandForm<'static>,
+    given: GivenOptions,
     total: usize,
-    places: &[FormPlace<'static>],
     words: &'w [String],
 ) -> Result<&'w [String], UsageFault>
-    ensures { IsLeft (cut_places (option_map choice_of option.entry) given total (map place_of places.now) (texts words.now)) result }
+    ensures { IsLeft (cut_places (form_of form.entry).options given total (form_of form.entry).places (texts words.now)) result }
 {
     let mut left = words;
-    for place in places {
+    for place in form.places {
         let Some((word, later)) = left.split_first() else {
             return Err(UsageFault::Missing(place_name(*place)));
         };
         let at = place_at(total, left);
-        if let Some(fault) = place_fault(option, given, at, *place, word.as_bytes()) {
+        if let Some(fault) = place_fault(form.options, given, at, *place, word.as_bytes()) {
             return Err(fault);
         }
         left = later;
@@ -217,59 +321,37 @@ fn cut_last<'w>(
     last: Option<&'static str>,
     total: usize,
     words: &'w [String],
-) -> Result<(bool, &'w [String]), UsageFault>
-    ensures { IsCut (cut_last (option_map (λ name. name.now) last.entry) total (texts words.now)) result }
+) -> Result<&'w [String], UsageFault>
+    ensures { IsLeft (left_of (cut_last (option_map (λ name. name.now) last.entry) total (texts words.now))) result }
 {
     let Some(name) = last else {
-        return Ok((false, words));
+        return Ok(words);
     };
     let Some((word, later)) = words.split_first() else {
-        return Ok((false, words));
+        return Ok(words);
     };
     match word.as_bytes() {
         [] => Err(UsageFault::NoFileName(place_at(total, words), name)),
-        [b'-', ..] => Ok((false, words)),
-        _ => Ok((true, later)),
+        [b'-', ..] => Ok(words),
+        _ => Ok(later),
     }
-}
-
-// Takes the option, unless it is given already.
-fn cut_end<'w>(
-    option: Option<FormOption<'static>>,
-    given: bool,
-    total: usize,
-    words: &'w [String],
-) -> Result<(bool, &'w [String]), UsageFault>
-    ensures { IsCut (cut_end (option_map choice_of option.entry) given total (texts words.now)) result }
-{
-    if given {
-        return Ok((false, words));
-    }
-    cut_option(option, total, words)
-}
-
-// The fault of an argument after all others.
-fn extra_fault(option: Option<FormOption<'static>>, at: usize, word: &[u8]) -> UsageFault
-    ensures { fault_of result ≡ extra_fault (option_map choice_of option.entry) at word.now }
-{
-    if is_dash(word) {
-        return dash_fault(option, true, at, word);
-    }
-    UsageFault::ExtraWord(at)
 }
 
 // The fault of arguments after all others, if there are any.
-fn extra_in(
-    option: Option<FormOption<'static>>,
+fn extra_fault(
+    options: &[FormOption<'static>],
+    given: GivenOptions,
     total: usize,
     words: &[String],
 ) -> Option<UsageFault>
-    ensures { option_map fault_of result ≡ extra_in (option_map choice_of option.entry) total (texts words.now) }
+    ensures { option_map fault_of result ≡ extra_fault (map choice_of options.now) given total (texts words.now) }
 {
-    match words.split_first() {
-        Some((word, _)) => Some(extra_fault(option, place_at(total, words), word.as_bytes())),
-        None => None,
+    let (word, _) = words.split_first()?;
+    let at = place_at(total, words);
+    if is_dash(word.as_bytes()) {
+        return Some(dash_fault(options, given, at, word.as_bytes()));
     }
+    Some(UsageFault::ExtraWord(at))
 }
 
 /// Tests the arguments after a command's name, of which there are `total` with the name.
@@ -283,11 +365,11 @@ pub(crate) fn usage_test(
 ) -> Result<(), UsageFault>
     ensures { IsTested (read_after (form_of form.entry) total (texts words.now)) result }
 {
-    let (before, left) = cut_option(form.option, total, words)?;
-    let left = cut_places(form.option, before, total, form.places, left)?;
-    let (_, left) = cut_last(form.last, total, left)?;
-    let (_, left) = cut_end(form.option, before, total, left)?;
-    match extra_in(form.option, total, left) {
+    let (given, left) = cut_options(form.options, GivenOptions::none(), total, words)?;
+    let left = cut_places(form, given, total, left)?;
+    let left = cut_last(form.last, total, left)?;
+    let (given, left) = cut_options(form.options, given, total, left)?;
+    match extra_fault(form.options, given, total, left) {
         Some(fault) => Err(fault),
         None => Ok(()),
     }

@@ -1,5 +1,5 @@
 // What can be wrong with arguments.
-use crate::forms::{FormNumber, FormOption};
+use crate::forms::FormNumber;
 
 /// Why arguments are no command. Places are those of the arguments, from 0, the name of the command included; the
 /// argument itself is not kept.
@@ -14,13 +14,13 @@ pub enum UsageFault {
     /// The argument at this place begins with `-`, and the command has no such option.
     UnknownOption(usize),
     /// The option at this place is given already.
-    OptionTwice(usize, FormOption<'static>),
+    OptionTwice(usize, &'static str),
     /// The option at this place is neither before the places nor after all files.
-    OptionBetween(usize, FormOption<'static>),
-    /// The option at this place has no number.
-    NoOptionNumber(usize, FormOption<'static>),
-    /// The argument at this place, without this number of bytes at its front, is not the number that the option needs.
-    BadOptionNumber(usize, usize, FormOption<'static>),
+    OptionBetween(usize, &'static str),
+    /// The option of this name has no number.
+    NoOptionNumber(&'static str, FormNumber<'static>),
+    /// The argument at this place, without this number of bytes at its front, is not the number that the option of this name needs.
+    BadOptionNumber(usize, usize, &'static str, FormNumber<'static>),
     /// The argument at this place is not the name of a file.
     NoFileName(usize, &'static str),
     /// The argument at this place is not the number that is due.

@@ -5,7 +5,9 @@ ghost use Rattle.sb_commands.specs.Forms.{bounded_of, choice_of, form_by, form_o
 ghost use Rattle.sb_commands.specs.Usage.{BadNumber, BadOptionNumber, ExtraWord, Missing, NoFileName, NoOptionNumber, OptionBetween, OptionTwice, UnknownOption, fault_of, texts};
 ghost use Rattle.sb_commands.specs.UsageMessages.{advice, first_text, is_flag, no_command_text, topic_text, argument_text, bounds_text, choice_text, command_text, fault_text, flag_text, form_text, last_text, name_text, number_text, place_text, quoted_word, unknown_text, usage_line, usage_message, word_at, wrong_text};
 
-use crate::forms::{CommandForm, FormNumber, FormOption, FormPlace, form_by, forms_text};
+use crate::forms::{
+    CommandForm, FormNumber, FormOption, FormPlace, OptionKind, form_by, forms_text,
+};
 use crate::inquiries::is_help_flag;
 use crate::usage::place_name;
 use crate::usage_faults::UsageFault;
@@ -33,15 +35,25 @@ fn put_last(out: &mut String, last: Option<&'static str>) -> Result<(), NoMemory
     Ok(())
 }
 
-fn put_choice(out: &mut String, option: Option<FormOption<'static>>) -> Result<(), NoMemory>
-    ensures { OnOk result (string_bytes out.new ≡ string_bytes out.old ++ choice_text (option_map choice_of option.entry)) }
+// Appends an option, in square brackets.
+fn put_choice(out: &mut String, option: FormOption<'static>) -> Result<(), NoMemory>
+    ensures { OnOk result (string_bytes out.new ≡ string_bytes out.old ++ choice_text (choice_of option.entry)) }
 {
-    if let Some(option) = option {
-        out.push_str(" [--")?;
-        out.push_str(option.flag)?;
-        out.push_str(" ")?;
-        out.push_str(option.number.name)?;
-        out.push_str("]")?;
+    out.push_str(" [--")?;
+    out.push_str(option.flag)?;
+    if let OptionKind::Number(number) = option.kind {
+        out.push(' ')?;
+        out.push_str(number.name)?;
+    }
+    out.push_str("]")?;
+    Ok(())
+}
+
+fn put_choices(out: &mut String, options: &[FormOption<'static>]) -> Result<(), NoMemory>
+    ensures { OnOk result (string_bytes out.new ≡ string_bytes out.old ++ flat_map choice_text (map choice_of options.now)) }
+{
+    for option in options {
+        put_choice(out, *option)?;
     }
     Ok(())
 }
@@ -65,7 +77,7 @@ pub(crate) fn put_form(out: &mut String, form: CommandForm<'static>) -> Result<(
     out.push_str(form.name)?;
     put_places(out, form.places)?;
     put_last(out, form.last)?;
-    put_choice(out, form.option)
+    put_choices(out, form.options)
 }
 
 fn put_usage_line(out: &mut String) -> Result<(), NoMemory>
@@ -152,11 +164,11 @@ fn put_wrong(out: &mut String, name: &str, at: usize, words: &[String]) -> Resul
 }
 
 // Appends an option's name.
-fn put_flag(out: &mut String, option: FormOption<'static>) -> Result<(), NoMemory>
-    ensures { OnOk result (string_bytes out.new ≡ string_bytes out.old ++ flag_text (choice_of option.entry)) }
+fn put_flag(out: &mut String, flag: &str) -> Result<(), NoMemory>
+    ensures { OnOk result (string_bytes out.new ≡ string_bytes out.old ++ flag_text flag.now) }
 {
     out.push_str("--")?;
-    out.push_str(option.flag)?;
+    out.push_str(flag)?;
     out.push_str(": ")?;
     Ok(())
 }
@@ -223,12 +235,17 @@ fn put_extra_argument(out: &mut String, at: usize, words: &[String]) -> Result<(
     put_argument_fault(out, "extra argument ", at, words)
 }
 
-// Appends an option, and what is wrong with the name of its number.
-fn put_number_name(out: &mut String, option: FormOption<'static>, why: &str) -> Result<(), NoMemory>
-    ensures { OnOk result (string_bytes out.new ≡ string_bytes out.old ++ number_text (choice_of option.entry) why.now) }
+// Appends the number of an option, and what is wrong with it.
+fn put_option_number(
+    out: &mut String,
+    flag: &str,
+    number: FormNumber<'static>,
+    why: &str,
+) -> Result<(), NoMemory>
+    ensures { OnOk result (string_bytes out.new ≡ string_bytes out.old ++ number_text flag.now (bounded_of number.entry) why.now) }
 {
-    put_flag(out, option)?;
-    out.push_str(option.number.name)?;
+    put_flag(out, flag)?;
+    out.push_str(number.name)?;
     out.push_str(why)?;
     Ok(())
 }
@@ -236,13 +253,12 @@ fn put_number_name(out: &mut String, option: FormOption<'static>, why: &str) -> 
 // Appends that an option has no number.
 fn put_no_number(
     out: &mut String,
-    at: usize,
-    option: FormOption<'static>,
-    words: &[String],
+    flag: &'static str,
+    number: FormNumber<'static>,
 ) -> Result<(), NoMemory>
-    ensures { OnOk result (string_bytes out.new ≡ string_bytes out.old ++ fault_text (NoOptionNumber at (choice_of option.entry)) (texts words.now)) }
+    ensures { OnOk result (string_bytes out.new ≡ string_bytes out.old ++ fault_text (NoOptionNumber flag.now (bounded_of number.entry)) []) }
 {
-    put_number_name(out, option, " is missing")
+    put_option_number(out, flag, number, " is missing")
 }
 
 // The rest of an argument after its first bytes, of which there are this number.
@@ -260,15 +276,16 @@ fn put_bad_option_number(
     out: &mut String,
     at: usize,
     skipped: usize,
-    option: FormOption<'static>,
+    flag: &str,
+    number: FormNumber<'static>,
     words: &[String],
 ) -> Result<(), NoMemory>
     ensures { OnOk result (string_bytes out.new ≡ string_bytes out.old
-        ++ fault_text (BadOptionNumber at skipped (choice_of option.entry)) (texts words.now)) }
+        ++ fault_text (BadOptionNumber at skipped flag.now (bounded_of number.entry)) (texts words.now)) }
 {
-    put_flag(out, option)?;
+    put_flag(out, flag)?;
     put_quoted(out, after_skipped(skipped, word_at(at, words)))?;
-    put_bounds(out, option.number)
+    put_bounds(out, number)
 }
 
 // Appends the command, a name, an argument that is not what the name means, and why.
@@ -315,30 +332,24 @@ fn put_bad_number(
 fn put_option_twice(
     out: &mut String,
     at: usize,
-    option: FormOption<'static>,
+    flag: &str,
     words: &[String],
 ) -> Result<(), NoMemory>
-    ensures { OnOk result (string_bytes out.new ≡ string_bytes out.old ++ fault_text (OptionTwice at (choice_of option.entry)) (texts words.now)) }
+    ensures { OnOk result (string_bytes out.new ≡ string_bytes out.old ++ fault_text (OptionTwice at flag.now) (texts words.now)) }
 {
-    put_named_fault(out, "--", option.flag, " is given twice", words)
+    put_named_fault(out, "--", flag, " is given twice", words)
 }
 
 // Appends that an option is neither before the files nor after them.
 fn put_option_between(
     out: &mut String,
     at: usize,
-    option: FormOption<'static>,
+    flag: &str,
     words: &[String],
 ) -> Result<(), NoMemory>
-    ensures { OnOk result (string_bytes out.new ≡ string_bytes out.old ++ fault_text (OptionBetween at (choice_of option.entry)) (texts words.now)) }
+    ensures { OnOk result (string_bytes out.new ≡ string_bytes out.old ++ fault_text (OptionBetween at flag.now) (texts words.now)) }
 {
-    put_named_fault(
-        out,
-        "--",
-        option.flag,
-        " is not allowed between the files",
-        words,
-    )
+    put_named_fault(out, "--", flag, " is not allowed between the files", words)
 }
 
 // Appends that an argument is missing.
@@ -357,11 +368,11 @@ fn put_fault(out: &mut String, fault: UsageFault, words: &[String]) -> Result<()
         UsageFault::NoCommand => Ok(out.push_str("a command is missing")?),
         UsageFault::UnknownCommand => put_unknown_command(out, words),
         UsageFault::UnknownOption(at) => put_unknown_option(out, at, words),
-        UsageFault::OptionTwice(at, option) => put_option_twice(out, at, option, words),
-        UsageFault::OptionBetween(at, option) => put_option_between(out, at, option, words),
-        UsageFault::NoOptionNumber(at, option) => put_no_number(out, at, option, words),
-        UsageFault::BadOptionNumber(at, skipped, option) => {
-            put_bad_option_number(out, at, skipped, option, words)
+        UsageFault::OptionTwice(at, flag) => put_option_twice(out, at, flag, words),
+        UsageFault::OptionBetween(at, flag) => put_option_between(out, at, flag, words),
+        UsageFault::NoOptionNumber(flag, number) => put_no_number(out, flag, number),
+        UsageFault::BadOptionNumber(at, skipped, flag, number) => {
+            put_bad_option_number(out, at, skipped, flag, number, words)
         }
         UsageFault::NoFileName(at, name) => put_no_file_name(out, at, name, words),
         UsageFault::BadNumber(at, number) => put_bad_number(out, at, number, words),

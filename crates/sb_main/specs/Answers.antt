@@ -7,8 +7,9 @@ use Rattle.sb_outside.specs.declared.sink.SinkFault.{SinkFault}
 use Rattle.sb_plain.specs.Effects.{Effect, IsOrderly}
 use Rattle.sb_top.specs.Top.{EndsAsMeant, files_for}
 use Rattle.sb_plain.specs.declared.outcomes.Outcome.{Outcome}
-use Rattle.sb_plain.specs.declared.outcomes.Status.{Status}
-use Rattle.sb_plain.specs.declared.outcomes.Status.TheVariants.{Done, NoMemory, WriteFault}
+use Rattle.sb_message.specs.declared.statuses.Refusal.TheVariants.{NoMemory}
+use Rattle.sb_message.specs.declared.statuses.Status.{Status}
+use Rattle.sb_message.specs.declared.statuses.Status.TheVariants.{Done, Refused, WriteFault}
 
 -- the outcome and the effect are those with which a top call may end
 pub record IsAnswer {G S : Type 0} (wanted : Result Command Fault) (e : Effect G S) (o : Outcome) : Type 0 where
@@ -20,4 +21,4 @@ abbrev pub IsTold : List ℕ → Option (List ℕ) → List ℕ → Option (List
 IsTold text before pending after pending' rose s =
     ((s ≡ Done) × GrowsBy before (pending ++ text) after × (pending' ≡ []))
     ⊎ ((fault : SinkFault) × (s ≡ WriteFault fault) × GrowsByPrefix before (pending ++ text) after × rose)
-    ⊎ ((s ≡ NoMemory) × (after ≡ before))
+    ⊎ ((s ≡ Refused NoMemory) × (after ≡ before))

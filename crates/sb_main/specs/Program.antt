@@ -10,9 +10,12 @@ use Rattle.sb_main.specs.Faulty.{IsFaulty}
 use Rattle.sb_outside.specs.Outside.{GrowsBy, GrowsByPrefix, Rose}
 use Rattle.sb_plain.specs.Effects.{Effect}
 use Rattle.sb_plain.specs.declared.outcomes.Outcome.{Outcome}
-use Rattle.sb_plain.specs.declared.outcomes.Status.{Status}
-use Rattle.sb_plain.specs.declared.outcomes.Status.TheVariants.{Done, NoMemory, Usage}
-use Rattle.sb_top.specs.Exits.{IsMessageOf, code_of, line_of}
+use Rattle.sb_message.specs.StatusMessages.{IsMessageOf}
+use Rattle.sb_message.specs.Statuses.{code_of, line_of}
+use Rattle.sb_message.specs.declared.statuses.Refusal.{Refusal}
+use Rattle.sb_message.specs.declared.statuses.Refusal.TheVariants.{NoMemory, Usage}
+use Rattle.sb_message.specs.declared.statuses.Status.{Status}
+use Rattle.sb_message.specs.declared.statuses.Status.TheVariants.{Done, Refused}
 
 -- ---- standard error
 
@@ -39,12 +42,12 @@ short_message status = line_of status ++ 10 ∷ []
 
 -- what is told if there is no memory for that line either: that there is none
 abbrev pub shortest_message : List ℕ
-shortest_message = line_of NoMemory ++ 10 ∷ []
+shortest_message = line_of (Refused NoMemory) ++ 10 ∷ []
 
 -- the text is a message of the outcome of these arguments; or there was no memory for that, and it is the short one; or there was none for this either
 abbrev pub IsMessage : List (List ℕ) → Outcome → List ℕ → Type 0
 IsMessage words o text =
-    IsMessageOf words o.status o.shown text
+    IsMessageOf words o.files o.status o.shown text
     ⊎ (text ≡ short_message o.status)
     ⊎ ((o.status ≢ Done) × (text ≡ shortest_message))
 
@@ -58,12 +61,12 @@ pub record IsComplaint (words : List (List ℕ)) (o : Outcome) (before after : O
 
 -- an outcome before a command is carried out: it has no report, and shows nothing
 abbrev pub bare : Status → Outcome
-bare status = record { status = status; shown = None; report = None }
+bare status = record { status = status; files = []; shown = None; report = None }
 
 -- The arguments, without the name of the program, come to this effect and outcome. If they ask about the program itself the text that answers is put, and no file is
 -- touched; otherwise they are a command, or have a fault
 pub record IsAnswered {G S : Type 0} (words : List (List ℕ)) (e : Effect G S) (o : Outcome) : Type 0 where
-  pub usage : (fault : UsageFault) → o.status ≡ Usage fault → IsFaulty (fault_of fault) words
+  pub usage : (fault : UsageFault) → o.status ≡ Refused (Usage fault) → IsFaulty (fault_of fault) words
   pub command : asked_of words ≡ None → IsAnswer (command_of words) e o
   pub asked : IfSome (asked_of words) (λ a. IsTold (answer_text a) e.written e.pending e.written' e.pending' (Rose e.puts e.puts') o.status)
   pub unshown : IsSome (asked_of words) → o.shown ≡ None
@@ -77,8 +80,8 @@ pub record IsSettled {G S : Type 0} (words : List (List ℕ)) (e : Effect G S) (
   pub code : exit ≡ code_of outcome.status
 
 -- the arguments were not gathered: they are not UTF-8, or there was no memory for them
-abbrev pub IsUngathered : Status → Type 0
-IsUngathered status = (status ≡ NoMemory) ⊎ (status ≡ Usage usage.NotUtf8)
+abbrev pub IsUngathered : Refusal → Type 0
+IsUngathered why = (why ≡ NoMemory) ⊎ (why ≡ Usage usage.NotUtf8)
 
 -- this was told once in place of an answer, the exit code is that of the status, and neither files nor output were touched
 pub record IsUnanswered {G S : Type 0} (status : Status) (e : Effect G S) (before after : Output) (exit : ℕ) : Type 0 where

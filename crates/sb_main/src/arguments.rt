@@ -1,10 +1,10 @@
 // The arguments of the program. Argument 0, the name under which the program was started, is not among them: it need not be UTF-8, and nothing reads it.
 ghost use Rattle.std.specs.Prelude.{◌≡◌, IfErr};
-ghost use Rattle.sb_main.specs.Gathering.{gathering_status};
+ghost use Rattle.sb_main.specs.Gathering.{gathering_refusal};
 ghost use Rattle.sb_main.specs.Program.{IsUngathered};
 
 use sb_commands::UsageFault;
-use sb_plain::Status;
+use sb_message::Refusal;
 use std::env::{self, Env, FillError};
 use std::io::ErrorKind;
 
@@ -29,7 +29,7 @@ impl<R: Env> Env for AfterName<'_, R> {
 }
 
 // The arguments after the name of the program, as the system gives them.
-pub(crate) fn given_arguments<R: Env + AllocGlobal>(rt: &R) -> Result<Vec<String>, Status>
+pub(crate) fn given_arguments<R: Env + AllocGlobal>(rt: &R) -> Result<Vec<String>, Refusal>
     ensures { IfErr result IsUngathered }
 {
     match env::args(&(AfterName { rt }, rt.alloc())) {
@@ -37,7 +37,7 @@ pub(crate) fn given_arguments<R: Env + AllocGlobal>(rt: &R) -> Result<Vec<String
             let all: Result<Vec<String>, _> = arguments.collect(rt.alloc());
             match all {
                 Ok(all) => Ok(all),
-                Err(_) => Err(Status::NoMemory),
+                Err(_) => Err(Refusal::NoMemory),
             }
         }
         Err(error) => Err(no_words(error.kind())),
@@ -45,11 +45,11 @@ pub(crate) fn given_arguments<R: Env + AllocGlobal>(rt: &R) -> Result<Vec<String
 }
 
 // Arguments that were not gathered are not UTF-8, or there was no memory for them.
-fn no_words(kind: ErrorKind) -> Status
-    ensures { result ≡ gathering_status kind }
+fn no_words(kind: ErrorKind) -> Refusal
+    ensures { result ≡ gathering_refusal kind }
 {
     match kind {
-        ErrorKind::OutOfMemory => Status::NoMemory,
-        _ => Status::Usage(UsageFault::NotUtf8),
+        ErrorKind::OutOfMemory => Refusal::NoMemory,
+        _ => Refusal::Usage(UsageFault::NotUtf8),
     }
 }

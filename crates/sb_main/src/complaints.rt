@@ -4,16 +4,21 @@ ghost use Rattle.sb_commands.specs.Usage.{texts};
 ghost use Rattle.sb_main.specs.Program.{IsComplaint, IsMessage, IsPutOnce, output, short_message};
 
 use sb_base::NoMemory;
+use sb_message::{Status, message};
 use sb_outside::{Sink, put_text};
-use sb_plain::{Outcome, Status};
-use sb_top::{Complaint, message};
+use sb_plain::Outcome;
 use std::alloc::Global;
 
 // What is told if there is no memory for any other text.
 const NO_MEMORY: &[u8] = b"sandbox: no memory\n";
 
 // Tells what went wrong, if anything did, and the notes of `check`. What is not written there changes nothing.
-pub(crate) fn complain<E: Sink>(alloc: Global, words: &[String], outcome: &Outcome, errors: &mut E)
+pub(crate) fn complain<E: Sink>(
+    alloc: Global,
+    words: &[String],
+    outcome: &Outcome<'_>,
+    errors: &mut E,
+)
     ensures { IsComplaint (texts words.now) outcome.now (output E.written E.pending E.faults errors.old) (output E.written E.pending E.faults errors.new) }
 {
     match told(alloc, words, outcome) {
@@ -23,11 +28,12 @@ pub(crate) fn complain<E: Sink>(alloc: Global, words: &[String], outcome: &Outco
 }
 
 // The message of an outcome, or the line of its status if there is no memory for that.
-fn told(alloc: Global, words: &[String], outcome: &Outcome) -> Result<String, NoMemory>
+fn told(alloc: Global, words: &[String], outcome: &Outcome<'_>) -> Result<String, NoMemory>
     ensures message { IfOk result (λ text. IsMessage (texts words.now) outcome.now (string_bytes text)) }
     ensures refused { OnErr result (outcome.now.status ≢ Status.Done) }
 {
-    match message(alloc, words, outcome) {
+    let shown = outcome.shown.as_ref();
+    match message(alloc, words, &outcome.files, outcome.status, shown) {
         Ok(text) => Ok(text),
         Err(NoMemory) => status_line(alloc, outcome.status),
     }
@@ -40,10 +46,7 @@ fn status_line(alloc: Global, status: Status) -> Result<String, NoMemory>
 {
     match status {
         Status::Done => Ok(String::new(alloc)),
-        _ => {
-            let complaint = Complaint { status };
-            Ok(format!(in alloc; "{complaint}\n")?)
-        }
+        _ => Ok(format!(in alloc; "sandbox: {status}\n")?),
     }
 }
 

@@ -11,7 +11,7 @@ ghost use Rattle.sb_commands.specs.Inquiries.{answer_text, asked, asked_of};
 ghost use Rattle.sb_commands.specs.Usage.{fault_of, texts};
 ghost use Rattle.sb_commands.specs.declared.usage_faults.UsageFault.{UsageFault};
 ghost use Rattle.sb_plain.specs.Effects.{effect};
-ghost use Rattle.sb_top.specs.Exits.{code_of};
+ghost use Rattle.sb_message.specs.Statuses.{code_of};
 ghost use Rattle.sb_main.specs.Answers.{IsAnswer, IsTold};
 ghost use Rattle.sb_main.specs.Faulty.{IsFaulty};
 ghost use Rattle.sb_main.specs.Program.{IsComplaint, IsUnanswered, IsSettled, bare, output};
@@ -20,11 +20,12 @@ use crate::arguments::given_arguments;
 use crate::complaints::complain;
 use sb_base::NoMemory;
 use sb_commands::{Inquiry, inquiry_of, inquiry_text};
+use sb_message::{Refusal, Status};
 use sb_outside::{
     Files, HostDisk, HostFiles, HostOutput, HostSink, OpenGate, PIECE, Sink, put_text,
 };
-use sb_plain::{Outcome, Status};
-use sb_top::{exit_code, plain_top, statuses_are_of_commands, threads_top};
+use sb_plain::Outcome;
+use sb_top::{plain_top, statuses_are_of_commands, threads_top};
 use std::alloc::Global;
 use std::io::{self, IsTerminal, Write};
 use std::process::ExitCode;
@@ -66,7 +67,7 @@ fn stream<W: Write + Drop>(alloc: Global, writer: W, piece: usize) -> HostSink<H
 // returns the exit code.
 fn run<R: AllocGlobal + Threads + Wait + Sync, F: Files, K: Sink, E: Sink>(
     rt: &R,
-    arguments: Result<Vec<String>, Status>,
+    arguments: Result<Vec<String>, Refusal>,
     files: &mut F,
     out: &mut K,
     errors: &mut E,
@@ -77,30 +78,17 @@ fn run<R: AllocGlobal + Threads + Wait + Sync, F: Files, K: Sink, E: Sink>(
         (output E.written E.pending E.faults errors.old) (output E.written E.pending E.faults errors.new) result) }
 
     // If there are none, why is told once, the exit code is that of it, and nothing else is done.
-    ensures refused { IfErr arguments (λ status. IsUnanswered status
+    ensures refused { IfErr arguments (λ refusal. IsUnanswered (Status.Refused refusal)
         (effect F.held F.faults K.written K.pending K.faults files.old files.new out.old out.new)
         (output E.written E.pending E.faults errors.old) (output E.written E.pending E.faults errors.new) result) }
 {
-    match arguments {
-        Ok(all) => settle(rt, &all, files, out, errors),
-        Err(status) => refuse(rt.alloc(), status, errors),
-    }
-}
-
-// Does what the arguments ask, and tells what went wrong: the exit code.
-fn settle<R: AllocGlobal + Threads + Wait + Sync, F: Files, K: Sink, E: Sink>(
-    rt: &R,
-    words: &[String],
-    files: &mut F,
-    out: &mut K,
-    errors: &mut E,
-) -> u8
-    ensures { IsSettled (texts words.now) (effect F.held F.faults K.written K.pending K.faults files.old files.new out.old out.new)
-        (output E.written E.pending E.faults errors.old) (output E.written E.pending E.faults errors.new) result }
-{
+    let words = match &arguments {
+        Ok(words) => words,
+        Err(refusal) => return refuse(rt.alloc(), Status::Refused(*refusal), errors),
+    };
     let outcome = answer(rt, words, files, out);
     complain(rt.alloc(), words, &outcome, errors);
-    exit_code(outcome.status)
+    outcome.status.exit_code()
 }
 
 // Tells why there are no arguments: the exit code.
@@ -108,29 +96,20 @@ fn refuse<E: Sink>(alloc: Global, status: Status, errors: &mut E) -> u8
     ensures told { IsComplaint [] (bare status) (output E.written E.pending E.faults errors.old) (output E.written E.pending E.faults errors.new) }
     ensures code { result ≡ code_of status }
 {
-    complain(alloc, &[], &outcome_of(status), errors);
-    exit_code(status)
+    complain(alloc, &[], &Outcome::bare(status), errors);
+    status.exit_code()
 }
 
-// An outcome before a command is carried out: it has no report, and shows nothing.
-fn outcome_of(status: Status) -> Outcome
-    ensures { result ≡ bare status }
-{
-    Outcome {
-        status,
-        shown: None,
-        report: None,
-    }
-}
-
-// Answers what is asked of the program itself, and leaves all other arguments to the top calls, over any files and any output.
-fn answer<R: AllocGlobal + Threads + Wait + Sync, F: Files, K: Sink>(
+// Answers what is asked of the program itself, and carries out the command that all other arguments are, with the meaning of `broker_top`, over any files and any
+// output. It can wait only after the call that cannot wait has handed back a command that runs on threads. It ends with Usage only if the arguments are no command,
+// and with their fault.
+fn answer<'a, R: AllocGlobal + Threads + Wait + Sync, F: Files, K: Sink>(
     rt: &R,
-    words: &[String],
+    words: &'a [String],
     files: &mut F,
     out: &mut K,
-) -> Outcome
-    ensures usage { (fault : UsageFault) → result.status ≡ Status.Usage fault → IsFaulty (fault_of fault) (texts words.now) }
+) -> Outcome<'a>
+    ensures usage { (fault : UsageFault) → result.status ≡ Status.Refused (Refusal.Usage fault) → IsFaulty (fault_of fault) (texts words.now) }
     ensures command { asked_of (texts words.now) ≡ None → IsAnswer (command_of (texts words.now))
         (effect F.held F.faults K.written K.pending K.faults files.old files.new out.old out.new) result }
     ensures asked { IfSome (asked_of (texts words.now)) (λ a. IsTold (answer_text a) (K.written out.old) (K.pending out.old) (K.written out.new) (K.pending out.new)
@@ -138,38 +117,10 @@ fn answer<R: AllocGlobal + Threads + Wait + Sync, F: Files, K: Sink>(
     ensures unshown { IsSome (asked_of (texts words.now)) → result.shown ≡ None }
     ensures untouched { IsSome (asked_of (texts words.now)) → files.new ≡ files.old }
 {
-    match inquiry_of(words) {
-        Some(inquiry) => outcome_of(tell(rt.alloc(), inquiry, out)),
-        None => answer_command(rt, words, files, out),
-    }
-}
-
-// Carries out what the arguments ask, which ends with Usage only if they are no command, and with their fault.
-fn answer_command<R: AllocGlobal + Threads + Wait + Sync, F: Files, K: Sink>(
-    rt: &R,
-    words: &[String],
-    files: &mut F,
-    out: &mut K,
-) -> Outcome
-    ensures ends { IsAnswer (command_of (texts words.now))
-        (effect F.held F.faults K.written K.pending K.faults files.old files.new out.old out.new) result }
-    ensures usage { (fault : UsageFault) → result.status ≡ Status.Usage fault → command_of (texts words.now) ≡ Err (fault_of fault) }
-{
     statuses_are_of_commands::<F, K>();
-    carry_out(rt, words, files, out)
-}
-
-// Carries out the command that the arguments are, with the meaning of `broker_top`. It can wait only after the call that cannot wait has handed back a
-// command that runs on threads.
-fn carry_out<R: AllocGlobal + Threads + Wait + Sync, F: Files, K: Sink>(
-    rt: &R,
-    words: &[String],
-    files: &mut F,
-    out: &mut K,
-) -> Outcome
-    ensures { IsAnswer (command_of (texts words.now))
-        (effect F.held F.faults K.written K.pending K.faults files.old files.new out.old out.new) result }
-{
+    if let Some(inquiry) = inquiry_of(words) {
+        return Outcome::bare(tell(rt.alloc(), inquiry, out));
+    }
     match plain_top(rt.alloc(), words, files, out) {
         Ok(outcome) => outcome,
         Err(command) => threads_top(rt, rt.alloc(), &command, files, out, &OpenGate),
@@ -183,7 +134,7 @@ fn tell<S: Sink>(alloc: Global, inquiry: Inquiry, sink: &mut S) -> Status
 {
     match inquiry_text(alloc, inquiry) {
         Ok(text) => put_whole(text.as_bytes(), sink),
-        Err(NoMemory) => Status::NoMemory,
+        Err(NoMemory) => Status::Refused(Refusal::NoMemory),
     }
 }
 

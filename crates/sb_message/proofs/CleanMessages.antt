@@ -30,22 +30,38 @@ use Rattle.sb_rule.specs.declared.actions.Action.TheVariants as action
 use Rattle.sb_rule.specs.declared.verdicts.Verdict.{Verdict}
 use Rattle.sb_rule.specs.declared.verdicts.Verdict.TheVariants as verdict
 use Rattle.sb_base.specs.Numbers.{hexadecimal}
-use Rattle.sb_message.specs.declared.end_messages.EndFault.{EndFault}
-use Rattle.sb_message.specs.declared.end_messages.EndFault.TheVariants as end
+use Rattle.sb_commands.specs.Commands.{name_at}
+use Rattle.sb_commands.specs.Usage.{fault_of}
+use Rattle.sb_commands.specs.UsageLaws.{UsageMessagesAreClean}
+use Rattle.sb_message.specs.declared.statuses.Difference.{Difference}
+use Rattle.sb_message.specs.declared.statuses.Difference.TheVariants.{Policies, Claims, Notes, NoEntry}
+use Rattle.sb_message.specs.declared.statuses.FileRefusal.{FileRefusal}
+use Rattle.sb_message.specs.declared.statuses.FileRefusal.TheVariants.{Missing, TooLong, ReadFault}
+use Rattle.sb_message.specs.declared.statuses.Refusal.{Refusal}
+use Rattle.sb_message.specs.declared.statuses.Refusal.TheVariants.{Usage, File, Text, TooComplex, NoMemory}
+use Rattle.sb_message.specs.declared.statuses.Status.{Status}
+use Rattle.sb_message.specs.declared.statuses.Status.TheVariants.{Done, Differs, Unfinished, WriteFault, Refused}
+use Rattle.sb_message.specs.declared.text_faults.TextFault.{TextFault}
+use Rattle.sb_message.specs.declared.text_faults.TextFault.TheVariants as text
 use Rattle.sb_message.specs.AuditMessages.{audit_headline, audit_first_line, audit_line, audit_message}
 use Rattle.sb_message.specs.Causes.{HasNumbers, are_words, cause_text, is_printable, two_text}
 use Rattle.sb_glyphs.specs.CleanTexts.{IsClean}
 use Rattle.sb_message.specs.DueTexts.{form_words, clause_words, number_text, entry_text, spot_text, form_text, place_text, verdict_text, rule_text, reply_text, own_text, result_text, status_text, totals_text, due_text}
 use Rattle.sb_outside.specs.declared.files.ReadCause.{ReadCause}
 use Rattle.sb_outside.specs.declared.files.ReadCause.TheVariants as said
-use Rattle.sb_message.specs.EndMessages.{cause_words, length_words, numbers_text, file_text, end_text, end_message}
+use Rattle.sb_outside.specs.declared.sink.SinkFault.{SinkFault}
+use Rattle.sb_outside.specs.declared.sink.SinkFault.TheVariants.{Closed, Full, Failed}
+use Rattle.sb_text.specs.MissingTexts.{or_empty}
+use Rattle.sb_message.specs.StatusMessages.{IsFaultMessage, IsMessageOf, IsRefusalMessage, cause_words, file_words, length_words, line_message, notes_by, write_message}
+use Rattle.sb_message.specs.Statuses.{difference_text, file_text, line_of, text_of}
 use Rattle.sb_glyphs.specs.Glyphs.{shown_bytes, glyphs_of}
-use Rattle.sb_message.specs.MessageLaws.{MessagesAreClean}
-use Rattle.sb_message.specs.declared.messages.TextFault.{TextFault}
+use Rattle.sb_message.specs.MessageLaws.{IsOfArguments, MessagesAreClean}
+use Rattle.sb_message.specs.declared.messages.NumberedFault.{NumberedFault}
 use Rattle.sb_message.specs.Messages.{IsMessage, place_line}
 use Rattle.sb_glyphs.specs.Excerpts.{excerpt}
 use Rattle.sb_message.specs.Places.{named_at}
 use Rattle.sb_glyphs.proofs.CleanLaws.{is_plain, Spelled, clean_of, both, three, four, five, six, nothing, plain, decimal_clean, hexadecimal_clean, bytes_clean, line_excerpt_clean, feed}
+use Rattle.sb_message.proofs.CleanNotes.{notes_clean}
 use Rattle.sb_message.proofs.CleanPlaces.{named_clean, place_clean, fault_clean}
 
 -- ---- words
@@ -81,7 +97,7 @@ cause_clean : (words : List ℕ) (names_token : Bool) (named hint : List ℕ) �
     → Spelled (cause_text words names_token named hint)
 cause_clean words names_token named hint hw hn hh = three words (cond names_token named []) hint hw (by_test names_token named [] hn nothing) hh
 
-message_clean : (fault : TextFault) (numbers : List ℕ) (names_token : Bool) (file line text : List ℕ) → IsMessage fault numbers names_token file line text → IsClean text
+message_clean : (fault : NumberedFault) (numbers : List ℕ) (names_token : Bool) (file line text : List ℕ) → IsMessage fault numbers names_token file line text → IsClean text
 message_clean fault numbers names_token file line text m =
     let named = named_at fault.text fault.column line in
     subst IsClean (sym m.is)
@@ -244,17 +260,7 @@ audit_clean file refuted shown =
     (three (audit_first_line refuted shown) (place_line file refuted.line 0) (audit_line shown) (audit_first_clean refuted shown) (place_clean file refuted.line 0)
     (audit_line_clean shown))
 
--- ---- ends
-
-file_clean : (before : List ℕ) (which : ℕ) (between file after : List ℕ) → Spelled before → Spelled between → Spelled after
-    → Spelled (file_text before which between file after)
-file_clean before which between file after hb hm ha =
-    five before (decimal which) between (shown_bytes file) after hb (decimal_clean which) hm (bytes_clean file) ha
-
-numbers_clean : (before : List ℕ) (first : ℕ) (between : List ℕ) (second : ℕ) (after : List ℕ) → Spelled before → Spelled between → Spelled after
-    → Spelled (numbers_text before first between second after)
-numbers_clean before first between second after hb hm ha =
-    five before (decimal first) between (decimal second) after hb (decimal_clean first) hm (decimal_clean second) ha
+-- ---- lines of statuses
 
 causes_clean : (cause : ReadCause) → Spelled (cause_words cause)
 causes_clean said.Directory = plain (cause_words said.Directory) refl
@@ -268,35 +274,102 @@ lengths_clean which =
     by_test (nat_lt which 3) (codes " has more than 4194304 bytes") (codes " has more than 4194304 bytes, or as a transcript more than 536870912")
     (plain (codes " has more than 4194304 bytes") refl) (plain (codes " has more than 4194304 bytes, or as a transcript more than 536870912") refl)
 
-end_text_clean : (fault : EndFault) (file : List ℕ) → Spelled (end_text fault file)
-end_text_clean (end.Unfinished target thread) file =
-    numbers_clean (codes "unfinished: target ") target (codes " thread ") thread (codes ": the thread did not end")
-    (plain (codes "unfinished: target ") refl) (plain (codes " thread ") refl) (plain (codes ": the thread did not end") refl)
-end_text_clean (end.Missing which) file =
-    file_clean (codes "missing file ") which (codes ": ") file (codes " does not exist") (plain (codes "missing file ") refl) (plain (codes ": ") refl)
-    (plain (codes " does not exist") refl)
-end_text_clean (end.TooLong which) file =
-    file_clean (codes "file ") which (codes " too long: ") file (length_words which) (plain (codes "file ") refl)
-    (plain (codes " too long: ") refl) (lengths_clean which)
-end_text_clean (end.ReadFault which cause) file =
-    file_clean (codes "read fault in file ") which (codes ": ") file (cause_words cause) (plain (codes "read fault in file ") refl)
-    (plain (codes ": ") refl) (causes_clean cause)
-end_text_clean end.WriteFault file = plain (codes "write fault: standard output cannot be written") refl
-end_text_clean end.OutputFull file = plain (codes "write fault: standard output is full, and does not wait") refl
-end_text_clean end.NoMemory file = plain (codes "no memory: out of memory") refl
+file_words_clean : (which : ℕ) (why : FileRefusal) → Spelled (file_words which why)
+file_words_clean which Missing = plain (codes " does not exist") refl
+file_words_clean which TooLong = lengths_clean which
+file_words_clean which (ReadFault cause) = causes_clean cause
 
-end_clean : (file : List ℕ) (fault : EndFault) → IsClean (end_message fault file)
-end_clean file fault =
-    clean_of (end_message fault file)
-    (three (codes "sandbox: ") (end_text fault file) (10 ∷ []) (plain (codes "sandbox: ") refl) (end_text_clean fault file) feed)
+-- words and a number
+with_number : (before : List ℕ) (n : ℕ) → Spelled before → Spelled (before ++ decimal n)
+with_number before n h = both before (decimal n) h (decimal_clean n)
 
-pub messages_clean : MessagesAreClean
-messages_clean = (
+-- words, a number, and what is after it
+around_number : (before : List ℕ) (n : ℕ) (after : List ℕ) → Spelled before → Spelled after → Spelled (before ++ (decimal n ++ after))
+around_number before n after h k = both before (decimal n ++ after) h (both (decimal n) after (decimal_clean n) k)
+
+around_numbers : (before : List ℕ) (n : ℕ) (between : List ℕ) (m : ℕ) → Spelled before → Spelled between → Spelled (before ++ (decimal n ++ (between ++ decimal m)))
+around_numbers before n between m h k = around_number before n (between ++ decimal m) h (with_number between m k)
+
+file_text_clean : (which : ℕ) (why : FileRefusal) → Spelled (file_text which why)
+file_text_clean which Missing = with_number (codes "missing file ") which (plain (codes "missing file ") refl)
+file_text_clean which TooLong = around_number (codes "file ") which (codes " too long") (plain (codes "file ") refl) (plain (codes " too long") refl)
+file_text_clean which (ReadFault cause) = with_number (codes "read fault in file ") which (plain (codes "read fault in file ") refl)
+
+difference_clean : (difference : Difference) → Spelled (difference_text difference)
+difference_clean (Policies changed single) =
+    around_numbers (codes "changed ") changed (codes ", only in one file ") single (plain (codes "changed ") refl) (plain (codes ", only in one file ") refl)
+difference_clean (Claims claims hold) = around_numbers (codes "claims ") claims (codes ", hold ") hold (plain (codes "claims ") refl) (plain (codes ", hold ") refl)
+difference_clean (Notes notes) = with_number (codes "notes ") notes (plain (codes "notes ") refl)
+difference_clean (NoEntry entry entries) = around_numbers (codes "no entry ") entry (codes " of ") entries (plain (codes "no entry ") refl) (plain (codes " of ") refl)
+
+-- the line of a status, with words around some bytes
+status_line_clean : (status : Status) (before named after : List ℕ) → Spelled (text_of status) → Spelled before → Spelled after
+    → IsClean (line_message status before named after)
+status_line_clean status before named after h hb ha =
+    clean_of (line_message status before named after)
+    (five (line_of status) before (shown_bytes named) after (10 ∷ []) (both (codes "sandbox: ") (text_of status) (plain (codes "sandbox: ") refl) h) hb
+    (bytes_clean named) ha feed)
+
+-- ---- ends
+
+text_fault_clean : (file : List ℕ) (fault : TextFault) (shown : Option (List ℕ)) (text : List ℕ) → IsFaultMessage file fault shown text → IsClean text
+text_fault_clean file (text.Policy fault) shown text m = message_clean _ _ _ file (or_empty shown) text m
+text_fault_clean file (text.Script fault) shown text m = message_clean _ _ _ file (or_empty shown) text m
+text_fault_clean file (text.Schedule fault) shown text m = message_clean _ _ _ file (or_empty shown) text m
+text_fault_clean file (text.Links fault) shown text m = message_clean _ _ _ file (or_empty shown) text m
+text_fault_clean file (text.Moves fault) shown text m = message_clean _ _ _ file (or_empty shown) text m
+text_fault_clean file (text.Transcript refuted) shown text m = subst IsClean (sym m) (audit_clean file refuted shown)
+
+refusal_clean : UsageMessagesAreClean → (words names : List (List ℕ)) (refusal : Refusal) (shown : Option (List ℕ)) (text : List ℕ)
+    → IsOfArguments words (Refused refusal) → IsRefusalMessage words names refusal shown text → IsClean text
+refusal_clean usage words names (Usage fault) shown text of m = subst IsClean (sym m) (usage words (fault_of fault) of)
+refusal_clean usage words names (File which why) shown text of m =
+    subst IsClean (sym m)
+    (status_line_clean (Refused (File which why)) (codes ": ") (name_at which names) (file_words which why) (file_text_clean which why) (plain (codes ": ") refl) (file_words_clean which why))
+refusal_clean usage words names (Text which fault) shown text of m = text_fault_clean (name_at which names) fault shown text m
+refusal_clean usage words names (TooComplex call) shown text of m =
+    subst IsClean (sym m)
+    (status_line_clean (Refused (TooComplex call)) (codes " of ") (or_empty shown) []
+    (both (codes "too complex: ") (call_word call) (plain (codes "too complex: ") refl) (call_clean call)) (plain (codes " of ") refl) nothing)
+refusal_clean usage words names NoMemory shown text of m =
+    subst IsClean (sym m)
+    (status_line_clean (Refused NoMemory) (codes ": out of memory") [] [] (plain (codes "no memory") refl) (plain (codes ": out of memory") refl) nothing)
+
+write_clean : (fault : SinkFault) → IsClean (write_message fault)
+write_clean Closed = clean_of [] nothing
+write_clean Full =
+    status_line_clean (WriteFault Full) (codes ": standard output is full, and does not wait") [] [] (plain (codes "write fault") refl)
+    (plain (codes ": standard output is full, and does not wait") refl) nothing
+write_clean Failed =
+    status_line_clean (WriteFault Failed) (codes ": standard output cannot be written") [] [] (plain (codes "write fault") refl)
+    (plain (codes ": standard output cannot be written") refl) nothing
+
+notes_by_clean : (name : List ℕ) (shown : Option (List ℕ)) → IsClean (notes_by name shown)
+notes_by_clean name None = clean_of [] nothing
+notes_by_clean name (Some text) = notes_clean name text
+
+end_clean : UsageMessagesAreClean → (words names : List (List ℕ)) (status : Status) (shown : Option (List ℕ)) (text : List ℕ)
+    → IsOfArguments words status → IsMessageOf words names status shown text → IsClean text
+end_clean usage words names Done shown text of m = subst IsClean (sym m) (notes_by_clean (name_at 1 names) shown)
+end_clean usage words names (Differs difference) shown text of m =
+    subst IsClean (sym m)
+    (status_line_clean (Differs difference) [] [] []
+    (both (codes "differs: ") (difference_text difference) (plain (codes "differs: ") refl) (difference_clean difference)) nothing nothing)
+end_clean usage words names (Unfinished target thread) shown text of m =
+    subst IsClean (sym m)
+    (status_line_clean (Unfinished target thread) (codes ": the thread did not end") [] []
+    (around_numbers (codes "unfinished: target ") target (codes " thread ") thread (plain (codes "unfinished: target ") refl) (plain (codes " thread ") refl))
+    (plain (codes ": the thread did not end") refl) nothing)
+end_clean usage words names (WriteFault fault) shown text of m = subst IsClean (sym m) (write_clean fault)
+end_clean usage words names (Refused refusal) shown text of m = refusal_clean usage words names refusal shown text of m
+
+pub messages_clean : UsageMessagesAreClean → MessagesAreClean
+messages_clean usage = (
   λ file line text fault m. message_clean _ _ _ file line text m,
   λ file line text fault m. message_clean _ _ _ file line text m,
   λ file line text fault m. message_clean _ _ _ file line text m,
   λ file line text fault m. message_clean _ _ _ file line text m,
   λ file line text fault m. message_clean _ _ _ file line text m,
   audit_clean,
-  end_clean,
+  end_clean usage,
 )

@@ -6,7 +6,7 @@ use Rattle.sb_glyphs.specs.CleanTexts.{IsClean}
 use Rattle.sb_glyphs.specs.Glyphs.{shown_bytes}
 use Rattle.sb_message.specs.declared.messages.FaultyText.{FaultyText}
 use Rattle.sb_message.specs.declared.messages.FaultyText.TheVariants.{Policy, Script, Schedule, Links, Moves}
-use Rattle.sb_message.specs.declared.messages.TextFault.{TextFault}
+use Rattle.sb_message.specs.declared.messages.NumberedFault.{NumberedFault}
 use Rattle.sb_message.specs.Messages.{text_word, headline, first_line, column_text, place_line, fault_message}
 use Rattle.sb_message.specs.Places.{place_of, named_at, shown_line}
 
@@ -33,16 +33,16 @@ place_clean file line column =
     five (codes "  --> ") (shown_bytes file) (58 ∷ decimal line) (column_text column) (10 ∷ []) (plain (codes "  --> ") refl) (bytes_clean file)
     (both (58 ∷ []) (decimal line) (plain (58 ∷ []) refl) (decimal_clean line)) (column_clean column) feed
 
-headline_clean : (fault : TextFault) → Spelled (headline fault)
+headline_clean : (fault : NumberedFault) → Spelled (headline fault)
 headline_clean fault =
     six (codes "sandbox: ") (text_word fault.text) (codes " line ") (decimal fault.line) (codes " fault ") (decimal fault.kind)
     (plain (codes "sandbox: ") refl) (word_clean fault.text) (plain (codes " line ") refl) (decimal_clean fault.line) (plain (codes " fault ") refl)
     (decimal_clean fault.kind)
 
-first_clean : (fault : TextFault) (cause : List ℕ) → Spelled cause → Spelled (first_line fault cause)
+first_clean : (fault : NumberedFault) (cause : List ℕ) → Spelled cause → Spelled (first_line fault cause)
 first_clean fault cause h = four (headline fault) (codes ": ") cause (10 ∷ []) (headline_clean fault) (plain (codes ": ") refl) h feed
 
-pub fault_clean : (fault : TextFault) (cause file line : List ℕ) → Spelled cause → IsClean (fault_message fault cause file line)
+pub fault_clean : (fault : NumberedFault) (cause file line : List ℕ) → Spelled cause → IsClean (fault_message fault cause file line)
 fault_clean fault cause file line h =
     clean_of (fault_message fault cause file line)
     (three (first_line fault cause) (place_line file fault.line fault.column) (shown_line fault.text fault.column line) (first_clean fault cause h)

@@ -2,7 +2,7 @@
 use Rattle.std.proofs.Common.{◌≡◌, ◌∙◌, ℕ, Bool, true, List, [], ◌∷◌, ◌++◌, ap, refl, sym}
 use Rattle.std.proofs.lemmas.List.{append_assoc, append-nil}
 use Rattle.std.specs.Fmt.{decimal}
-use Rattle.sb_message.specs.declared.messages.TextFault.{TextFault}
+use Rattle.sb_message.specs.declared.messages.NumberedFault.{NumberedFault}
 use Rattle.sb_message.specs.Causes.{HasNumbers, are_words, cause_text, two_text}
 use Rattle.sb_message.specs.Messages.{IsMessage, fault_message, message_with}
 use Rattle.sb_message.specs.Places.{named_at, shown_line}
@@ -35,7 +35,7 @@ three_numbers before between after n m k text b c a t = (
 )
 
 -- a message that was put together of these parts
-pub told : (fault : TextFault) (numbers : List ℕ) (names_token : Bool) (file line words hint named lines cause text : List ℕ) → HasNumbers numbers words
+pub told : (fault : NumberedFault) (numbers : List ℕ) (names_token : Bool) (file line words hint named lines cause text : List ℕ) → HasNumbers numbers words
     → are_words hint ≡ true → named ≡ named_at fault.text fault.column line → lines ≡ shown_line fault.text fault.column line
     → cause ≡ cause_text words names_token named hint → text ≡ message_with fault cause file lines → IsMessage fault numbers names_token file line text
 told fault numbers names_token file line words hint named lines cause text w h n l c t = record {

@@ -8,7 +8,9 @@ pub mod LinkMessages
 pub mod MoveMessages
 pub mod DueTexts
 pub mod AuditMessages
-pub mod EndMessages
+pub mod TextFaults
+pub mod Statuses
+pub mod StatusMessages
 pub mod MessageLaws
 pub mod NoteMessages
 pub mod NoteLaws

@@ -4,14 +4,13 @@ ghost use Rattle.sb_audit.specs.declared.dues.OwnDue.TheVariants.{Decision, Late
 ghost use Rattle.sb_audit.specs.declared.dues.ReplyDue.TheVariants.{Whole};
 ghost use Rattle.sb_audit.specs.declared.dues.RuleDue.TheVariants.{RuleOn};
 ghost use Rattle.sb_call.specs.CallWords.{call_word};
-ghost use Rattle.sb_rule.specs.Actions.{action_word};
 ghost use Rattle.sb_base.specs.Numbers.{hexadecimal};
 ghost use Rattle.sb_message.specs.DueTexts.{clause_words, due_text, entry_text, form_text, form_words, number_text, own_text, place_text, reply_text, result_text, rule_text, spot_text, status_text, totals_text, verdict_text};
 
 use crate::causes::{put_two, put_words};
 use sb_audit::{Due, FormDue, OwnDue, PlaceDue, ReplyDue, ResultDue, RuleDue, Spot};
 use sb_base::NoMemory;
-use sb_call::CallTag;
+use sb_call::{CallTag, call_word};
 use sb_glyphs::{put_decimal_text, put_hexadecimal_text};
 use sb_rule::{Action, Verdict};
 use sb_transcript::TotalsLine;
@@ -120,38 +119,6 @@ fn put_place(out: &mut String, due: PlaceDue) -> Result<(), NoMemory>
     }
 }
 
-// The word of an action in a policy.
-fn action_text(action: Action) -> &'static str
-    ensures { result.now ≡ action_word action }
-{
-    match action {
-        Action::Allow => "allow",
-        Action::Deny => "deny",
-        Action::Alarm => "alarm",
-        Action::Fake => "fake",
-        Action::ReadOnly => "readonly",
-    }
-}
-
-// The word of a call.
-fn call_text(tag: CallTag) -> &'static str
-    ensures { result.now ≡ call_word tag }
-{
-    match tag {
-        CallTag::Ping => "ping",
-        CallTag::FileCreate => "file.create",
-        CallTag::FileOpen => "file.open",
-        CallTag::FileQuery => "file.query",
-        CallTag::FileRename => "file.rename",
-        CallTag::PipeCreate => "pipe.create",
-        CallTag::KeyCreate => "key.create",
-        CallTag::KeyOpen => "key.open",
-        CallTag::EventCreate => "event.create",
-        CallTag::EventOpen => "event.open",
-        CallTag::HandleClose => "handle.close",
-    }
-}
-
 // Appends what a policy says of a call.
 fn put_verdict(out: &mut String, verdict: Verdict) -> Result<(), NoMemory>
     ensures { OnOk result (string_bytes out.new ≡ string_bytes out.old ++ verdict_text verdict) }
@@ -165,7 +132,7 @@ fn put_verdict(out: &mut String, verdict: Verdict) -> Result<(), NoMemory>
                 u64::from(line),
                 ": ",
             )?;
-            Ok(out.push_str(action_text(action))?)
+            Ok(out.push_str(action.word())?)
         }
     }
 }
@@ -175,7 +142,7 @@ fn put_no_rule(out: &mut String, line: u32, action: Action) -> Result<(), NoMemo
     ensures { OnOk result (string_bytes out.new ≡ string_bytes out.old ++ rule_text (RuleOn line action)) }
 {
     out.push_str("the policy has no ")?;
-    out.push_str(action_text(action))?;
+    out.push_str(action.word())?;
     put_number(out, " rule for it on line ", u64::from(line), "")
 }
 
@@ -254,7 +221,7 @@ fn put_judged(
     ensures { OnOk result (string_bytes out.new ≡ string_bytes out.old ++ (before.now ++ call_word tag ++ between.now ++ verdict_text verdict)) }
 {
     out.push_str(before)?;
-    out.push_str(call_text(tag))?;
+    out.push_str(call_word(tag))?;
     out.push_str(between)?;
     put_verdict(out, verdict)
 }

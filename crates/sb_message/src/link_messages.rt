@@ -5,7 +5,7 @@ ghost use Rattle.sb_message.specs.LinkMessages.{IsLinkMessage, link_names};
 
 use crate::causes::{cause_text, names_word, word_words};
 use crate::hints::{link_lines, link_name_hint, mark_hint, token_hint};
-use crate::messages::{FaultyText, TextFault, text_message};
+use crate::messages::{FaultyText, NumberedFault, text_message};
 use crate::places::shown_place;
 use sb_base::NoMemory;
 use sb_link::{LinkFault, LinkKind};
@@ -64,7 +64,7 @@ pub fn link_message(
 ) -> Result<String, NoMemory>
     ensures { IfOk result (λ message. IsLinkMessage file.now fault line.now (string_bytes message)) }
 {
-    let place = TextFault {
+    let place = NumberedFault {
         text: FaultyText::Links,
         line: fault.line,
         column: fault.column,

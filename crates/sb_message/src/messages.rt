@@ -23,7 +23,7 @@ pub enum FaultyText {
 
 /// A fault of a text: its kind by its number, and where it is.
 #[derive(Clone, Copy)]
-pub struct TextFault {
+pub struct NumberedFault {
     /// The text.
     pub text: FaultyText,
     /// The line, from 1.
@@ -47,7 +47,7 @@ fn text_word(text: FaultyText) -> &'static str
 }
 
 // Appends the first line up to the cause.
-fn put_headline(out: &mut String, fault: TextFault) -> Result<(), NoMemory>
+fn put_headline(out: &mut String, fault: NumberedFault) -> Result<(), NoMemory>
     ensures { OnOk result (string_bytes out.new ≡ string_bytes out.old ++ headline fault) }
 {
     out.push_str("sandbox: ")?;
@@ -59,7 +59,7 @@ fn put_headline(out: &mut String, fault: TextFault) -> Result<(), NoMemory>
 }
 
 // Appends the first line.
-fn put_first_line(out: &mut String, fault: TextFault, cause: &str) -> Result<(), NoMemory>
+fn put_first_line(out: &mut String, fault: NumberedFault, cause: &str) -> Result<(), NoMemory>
     ensures { OnOk result (string_bytes out.new ≡ string_bytes out.old ++ first_line fault cause.now) }
 {
     put_headline(out, fault)?;
@@ -101,7 +101,7 @@ pub(crate) fn put_place_line(
 /// lines.
 pub(crate) fn text_message(
     alloc: Global,
-    fault: TextFault,
+    fault: NumberedFault,
     cause: &str,
     file: &[u8],
     lines: &str,

@@ -5,7 +5,7 @@ ghost use Rattle.sb_message.specs.MoveMessages.{IsMoveMessage, move_names, move_
 
 use crate::causes::{alone, cause_text, names_word, no_target, not_in_range, word_words};
 use crate::hints::{mark_hint, move_lines};
-use crate::messages::{FaultyText, TextFault, text_message};
+use crate::messages::{FaultyText, NumberedFault, text_message};
 use crate::places::shown_place;
 use sb_base::NoMemory;
 use sb_dup::{MoveFault, MoveKind};
@@ -73,7 +73,7 @@ pub fn move_message(
 ) -> Result<String, NoMemory>
     ensures { IfOk result (λ message. IsMoveMessage file.now fault line.now (string_bytes message)) }
 {
-    let place = TextFault {
+    let place = NumberedFault {
         text: FaultyText::Moves,
         line: fault.line,
         column: fault.column,

@@ -7,7 +7,7 @@ use crate::causes::{cause_text, names_word, pattern_words, word_words};
 use crate::hints::{
     call_hint, fit_hint, mark_hint, missing_hint, parameter_hint, token_hint, word_hint,
 };
-use crate::messages::{FaultyText, TextFault, text_message};
+use crate::messages::{FaultyText, NumberedFault, text_message};
 use crate::places::shown_place;
 use sb_base::NoMemory;
 use sb_ruletext::{FitDue, PolicyFault, PolicyFaultKind, PolicyLimit};
@@ -127,7 +127,7 @@ pub fn policy_message(
 ) -> Result<String, NoMemory>
     ensures { IfOk result (λ message. IsPolicyMessage file.now fault line.now (string_bytes message)) }
 {
-    let place = TextFault {
+    let place = NumberedFault {
         text: FaultyText::Policy,
         line: fault.line,
         column: fault.column,

@@ -5,7 +5,7 @@ ghost use Rattle.sb_message.specs.ScheduleMessages.{IsScheduleMessage, schedule_
 
 use crate::causes::{alone, cause_text, names_word, not_in_range, word_words};
 use crate::hints::{mark_hint, schedule_lines};
-use crate::messages::{FaultyText, TextFault, text_message};
+use crate::messages::{FaultyText, NumberedFault, text_message};
 use crate::places::shown_place;
 use sb_base::NoMemory;
 use sb_scripttext::{ScheduleFault, ScheduleKind};
@@ -83,7 +83,7 @@ pub fn schedule_message(
 ) -> Result<String, NoMemory>
     ensures { IfOk result (λ message. IsScheduleMessage file.now fault line.now (string_bytes message)) }
 {
-    let place = TextFault {
+    let place = NumberedFault {
         text: FaultyText::Schedule,
         line: fault.line,
         column: fault.column,

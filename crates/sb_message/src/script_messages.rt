@@ -7,7 +7,7 @@ use crate::causes::{alone, cause_text, names_word, no_target, not_in_range, put_
 use crate::hints::{
     block_hint, call_hint, form_hint, mark_hint, name_hint, script_word_hint, token_hint,
 };
-use crate::messages::{FaultyText, TextFault, text_message};
+use crate::messages::{FaultyText, NumberedFault, text_message};
 use crate::places::shown_place;
 use sb_base::NoMemory;
 use sb_glyphs::put_decimal_text;
@@ -194,7 +194,7 @@ pub fn script_message(
 ) -> Result<String, NoMemory>
     ensures { IfOk result (λ message. IsScriptMessage file.now fault line.now (string_bytes message)) }
 {
-    let place = TextFault {
+    let place = NumberedFault {
         text: FaultyText::Script,
         line: fault.line,
         column: fault.column,

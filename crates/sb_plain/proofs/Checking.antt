@@ -1,81 +1,90 @@
 -- What `check` comes to.
-use Rattle.std.proofs.Common.{◌≡◌, ◌∙◌, refl, sym, ap, subst, inl, inr, ℕ, List, length, Option, lit≤}
-use Rattle.std.specs.Prelude.{IfOk, IsOkAnd, IfSome, Result, Ok, Err, ◌∷◌, []}
+use Rattle.std.proofs.Common.{◌≡◌, ◌⊎◌, ◌∙◌, refl, sym, ap, subst, inl, inr, ℕ, List, length, Option, lit≤}
+use Rattle.std.specs.Prelude.{IfSome, IsOkAnd, Result, Ok, Err, ◌∷◌, []}
+use Rattle.sb_message.specs.declared.statuses.Refusal.TheVariants.{NoMemory}
 use Rattle.sb_outside.specs.Outside.{Held}
 use Rattle.sb_rule.specs.declared.policies.Policy.{Policy}
 use Rattle.sb_text.specs.Steps.{◌>>=◌}
-use Rattle.sb_plain.specs.Check.{check_end, printed_end}
-use Rattle.sb_plain.specs.Coming.{IsFound, IsFoundFor, IsRead, IsReadBy, ReportedEnd, end_or_refusal, reported}
-use Rattle.sb_plain.specs.Contents.{Content, Refusal, noted_policies_in, policies_in, refused}
-use Rattle.sb_plain.specs.Ends.{Contents, End, Plain}
+use Rattle.sb_plain.specs.Check.{check_end, check_text, printed_end}
+use Rattle.sb_plain.specs.Contents.{Content, Contents, FileContent, ShownRefusal, alone, file_in, most_bytes, policies_of, refused}
+use Rattle.sb_plain.specs.Ends.{End, Plain}
+use Rattle.sb_plain.specs.Readings.{GivesEnd, IsFound, IsFoundFor, ReportedEnd, reported}
+use Rattle.sb_plain.specs.ScriptEnds.{IsOne}
 use Rattle.sb_plain.specs.Sound.{AreEndsSound, IsSound}
-use Rattle.sb_plain.specs.declared.outcomes.Status.TheVariants.{NoMemory}
-use Rattle.sb_plain.proofs.Carrying.{Known, starved}
+use Rattle.sb_plain.proofs.ReadFiles.{FoundAlone, IsFileFault, opened}
 use Rattle.sb_plain.proofs.Readings.{bound, same_end}
-use Rattle.sb_plain.proofs.Suiting.{EndsPlainly, IsSuited, RefusesFor, next, of_policies}
+use Rattle.sb_plain.proofs.Suiting.{IsSuited, RefusesFor, of_policies}
 
--- what the first file holds, with its policies
-abbrev Noted : Type 0
-Noted = Content × List Policy
+-- ---- its text
 
-abbrev keep : Content → List Policy → Result Noted Refusal
-keep content policies = Ok (content, policies)
+abbrev print : FileContent → List Policy → Result End ShownRefusal
+print text policies = Ok (printed_end text.bytes policies)
 
-abbrev end_of : Noted → Result End Refusal
-end_of n = Ok (printed_end n.0 n.1)
+-- the policies are refused
+pub text_refused : (text : FileContent) (refusal : ShownRefusal) → (policies_of text ≡ Err refusal) ⊎ (refusal ≡ refused NoMemory) → GivesEnd (check_text text) (Err refusal)
+text_refused text refusal (inl e) = inl (ap (λ r. r >>= print text) e)
+text_refused text refusal (inr m) = inr m
 
-noted_once : (content : Content) (read : Result (List Policy) Refusal)
-    → ((read >>= keep content) >>= end_of) ≡ (read >>= λ p. Ok (printed_end content p))
-noted_once content (Ok policies) = refl
-noted_once content (Err refusal) = refl
+-- or printed
+pub text_printed : (text : FileContent) (policies : List Policy) (found : ReportedEnd) → policies_of text ≡ Ok policies → found ≡ reported (printed_end text.bytes policies)
+    → GivesEnd (check_text text) (Ok found)
+text_printed text policies found e h = subst (λ r. IsOkAnd (r >>= print text) (λ end. found ≡ reported end)) (sym e) h
 
-pub check_unread : (held : Option Held) (policy : List ℕ) (refusal : Refusal)
-    → IsRead (λ (n : Noted). n) 1 noted_policies_in held policy (Err refusal)
-    → IsFound check_end (policy ∷ []) held (Err refusal)
-check_unread held policy refusal h = record {
-  contents = h.0 ∷ [];
-  are = (h.1, tt);
-  is = by h.2;
-}
-  where
-    by : IsReadBy (λ (n : Noted). n) 1 noted_policies_in h.0 (Err refusal) → IsFoundFor check_end (h.0 ∷ []) (Err refusal)
-    by (inl e) = inl (sym (noted_once h.0 (policies_in h.0)) ∙ ap (λ x. x >>= end_of) e)
-    by (inr (inl u)) = inr (inl (1, u, refl))
-    by (inr (inr m)) = inr (inr m)
+-- ---- its file
 
-check_done : (held : Option Held) (policy : List ℕ) (noted : Noted) (end : ReportedEnd) → Known noted_policies_in held policy noted
-    → end ≡ reported (printed_end noted.0 noted.1) → IsFound check_end (policy ∷ []) held (Ok end)
-check_done held policy noted end h e = record {
-  contents = h.0 ∷ [];
-  are = (h.1, tt);
-  is =
-      subst (λ x. IsOkAnd x (λ y. end ≡ reported y)) (noted_once h.0 (policies_in h.0))
-      (subst (λ x. IsOkAnd (x >>= end_of) (λ y. end ≡ reported y)) (sym h.2) e);
-}
+module _ (held : Option Held) (policy : List ℕ) where
+  -- the file is refused
+  check_unread : (refusal : ShownRefusal) → FoundAlone most_bytes 1 held policy (Err refusal) → IsFound reported 1 check_end (policy ∷ []) held (Err refusal)
+  check_unread refusal f = let h = opened most_bytes 1 held policy (Err refusal) f in record { contents = h.0 ∷ []; are = (h.1, tt); is = by h.0 h.2 }
+    where
+      by : (content : Content) → (file_in 1 content ≡ Err refusal) ⊎ IsFileFault 1 refusal → IsFoundFor reported 1 check_end (content ∷ []) (Err refusal)
+      by content (inl e) = inl (ap (λ r. r >>= check_text) e)
+      by content (inr (inl u)) = inr (inl (1, u, refl))
+      by content (inr (inr m)) = inr (inr m)
 
--- the end is reached, unless memory ran out
-pub check_made : {E : Type 0} (held : Option Held) (policy : List ℕ) (noted : Noted) (made : Result ReportedEnd E) → Known noted_policies_in held policy noted
-    → IfOk made (λ end. end ≡ reported (printed_end noted.0 noted.1)) → IsFound check_end (policy ∷ []) held (end_or_refusal made)
-check_made held policy noted (Ok end) h e = check_done held policy noted end h e
-check_made held policy noted (Err fault) h e = starved (Plain check_end) (policy ∷ []) held (refused NoMemory) refl
+  -- what was made of its text is what is meant
+  check_made : (text : FileContent) (made : Result ReportedEnd ShownRefusal) → FoundAlone most_bytes 1 held policy (Ok text) → GivesEnd (check_text text) made
+      → IsFound reported 1 check_end (policy ∷ []) held made
+  check_made text made f g = let h = opened most_bytes 1 held policy (Ok text) f in record { contents = h.0 ∷ []; are = (h.1, tt); is = by h.0 h.2 made g }
+    where
+      by : (content : Content) → file_in 1 content ≡ Ok text → (m : Result ReportedEnd ShownRefusal) → GivesEnd (check_text text) m
+          → IsFoundFor reported 1 check_end (content ∷ []) m
+      by content e (Ok found) k = subst (λ r. IsOkAnd (r >>= check_text) (λ y. found ≡ reported y)) (sym e) k
+      by content e (Err refusal) (inl k) = inl (ap (λ r. r >>= check_text) e ∙ k)
+      by content e (Err refusal) (inr m) = inr (inr m)
+
+-- the same over the names of its file
+pub check_refused : (held : Option Held) (names : List (List ℕ)) (refusal : ShownRefusal) → IsOne names
+    → IsFound (λ (text : FileContent). text) 1 (alone 1 (file_in 1)) names held (Err refusal) → IsFound reported 1 check_end names held (Err refusal)
+check_refused held [] refusal h f = absurd h
+check_refused held (name ∷ []) refusal h f = check_unread held name refusal f
+check_refused held (name ∷ further ∷ names) refusal h f = absurd h
+
+pub check_came : (held : Option Held) (names : List (List ℕ)) (text : FileContent) (made : Result ReportedEnd ShownRefusal) → IsOne names
+    → IsFound (λ (t : FileContent). t) 1 (alone 1 (file_in 1)) names held (Ok text) → GivesEnd (check_text text) made → IsFound reported 1 check_end names held made
+check_came held [] text made h f g = absurd h
+check_came held (name ∷ []) text made h f g = check_made held name text made f g
+check_came held (name ∷ further ∷ names) text made h f g = absurd h
 
 -- ---- its statuses, and its runs
 
 pub check_suited : IsSuited 1 check_end
-check_suited = record { refuses = refuses; plain = plain }
+check_suited [] e = (1, refl, lit≤ tt, lit≤ tt)
+check_suited (content ∷ []) e = by (file_in 1 content) (of_policies 1 content (lit≤ tt))
   where
-    refuses : (contents : Contents) → length contents ≡ 1 → RefusesFor 1 (check_end contents)
-    refuses [] e = (1, refl, lit≤ tt, lit≤ tt)
-    refuses (c ∷ []) e = next 1 (policies_in c) (λ policies. Ok (printed_end c policies)) (of_policies 1 c (lit≤ tt)) (λ p. tt)
-    refuses (c ∷ d ∷ cs) e = (1, refl, lit≤ tt, lit≤ tt)
+    told : (text : FileContent) (r : Result (List Policy) ShownRefusal) → RefusesFor 1 r → RefusesFor 1 (r >>= λ policies. Ok (printed_end text.bytes policies))
+    told text (Ok policies) h = tt
+    told text (Err refusal) h = h
 
-    plain : (contents : Contents) (end : End) → check_end contents ≡ Ok end → EndsPlainly end
-    plain [] end e = cc
-    plain (c ∷ []) end e =
-        let ps = bound (policies_in c) _ end e in subst EndsPlainly (same_end (printed_end c ps.0) end ps.2) (λ s k. cc)
-    plain (c ∷ d ∷ cs) end e = cc
+    by : (r : Result FileContent ShownRefusal) → RefusesFor 1 (r >>= policies_of) → RefusesFor 1 (r >>= check_text)
+    by (Ok text) h = told text (policies_of text) h
+    by (Err refusal) h = h
+check_suited (content ∷ further ∷ contents) e = (1, refl, lit≤ tt, lit≤ tt)
 
 pub check_sound : AreEndsSound (Plain check_end)
 check_sound [] end e = cc
-check_sound (c ∷ []) end e = let ps = bound (policies_in c) _ end e in subst (λ (x : End). IfSome x.run IsSound) (same_end (printed_end c ps.0) end ps.2) tt
-check_sound (c ∷ d ∷ cs) end e = cc
+check_sound (content ∷ []) end e =
+    let text = bound (file_in 1 content) check_text end e in
+    let ps = bound (policies_of text.0) (λ policies. Ok (printed_end text.0.bytes policies)) end text.2 in
+    subst (λ (x : End). IfSome x.run IsSound) (same_end (printed_end text.0.bytes ps.0) end ps.2) tt
+check_sound (content ∷ further ∷ contents) end e = cc

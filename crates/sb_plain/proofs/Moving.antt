@@ -5,28 +5,27 @@ use Rattle.std.specs.List.{list_all}
 use Rattle.std.proofs.lemmas.List.{length-map}
 use Rattle.sb_book.specs.Histories.{setting_of}
 use Rattle.sb_book.specs.ReadyScripts.{Ready}
-use Rattle.sb_book.specs.declared.reports.Report.{Report}
 use Rattle.sb_compile.specs.Compiling.{policies_of_targets}
 use Rattle.sb_core.specs.declared.runs.Ran.{Ran}
 use Rattle.sb_dup.specs.Lines.{is_between}
-use Rattle.sb_dup.specs.MoveTexts.{MoveFault}
+use Rattle.sb_dup.specs.MoveTexts.{reading}
 use Rattle.sb_dup.specs.declared.moves.Move.{Move}
-use Rattle.sb_outside.specs.Outside.{Held}
+use Rattle.sb_message.specs.declared.text_faults.TextFault.TheVariants.{Moves}
 use Rattle.sb_rule.specs.Verdicts.{policy_at}
 use Rattle.sb_rule.specs.declared.policies.Policy.{Policy}
 use Rattle.sb_ruletext.specs.Laws.{ReadPoliciesAreWellMade}
 use Rattle.sb_scripttext.specs.Readiness.{ReadScriptsAreReady}
 use Rattle.sb_statements.specs.declared.scripts.Script.{Script}
-use Rattle.sb_plain.specs.Coming.{GivesBy, IsCausedBy, IsTextCaused, ReportedEnd, reported}
-use Rattle.sb_plain.specs.Contents.{Content, Refusal, no_schedule, text_in}
-use Rattle.sb_plain.specs.Dup.{dup_end, moves_after, moves_by, moves_end, moves_in, reported_moves, text_after}
+use Rattle.sb_plain.specs.Contents.{FileContent, most_bytes, no_schedule}
+use Rattle.sb_plain.specs.Dup.{dup_end, moves_end, moves_of, reported_moves}
 use Rattle.sb_plain.specs.Ends.{End, Plain}
+use Rattle.sb_plain.specs.Readings.{ReportedEnd, reported}
 use Rattle.sb_plain.specs.Replay.{whole_run}
+use Rattle.sb_plain.specs.ScriptEnds.{ends, needed}
 use Rattle.sb_plain.specs.Sound.{AreEndsSound, IsSound, RunsAreSound}
-use Rattle.sb_plain.proofs.ReadFiles.{given_caused}
-use Rattle.sb_plain.proofs.Readings.{can_run}
+use Rattle.sb_plain.proofs.Readings.{can_run, same_end}
 use Rattle.sb_plain.proofs.ScriptEnds.{each_end}
-use Rattle.sb_plain.proofs.Suiting.{EndsPlainly, IsPlainStatus, IsSuited, RefusesFor, next, of_text, script_suited, third_refuses, unfinished_plain}
+use Rattle.sb_plain.proofs.Suiting.{IsSuited, RefusesFor, of_needed, script_suited, third_text}
 
 -- ---- the run and its end
 
@@ -49,41 +48,19 @@ moves_ended opened targets script moves r (Ok end) judged same whole e =
     ∙ ap (λ (x : Ran). reported_moves by opened.script moves x) whole))
 moves_ended opened targets script moves r (Err fault) judged same whole e = tt
 
--- a refusal of what the text of the moves says has no cause outside it
-pub moves_caused : (text : List ℕ) (held : Option Held) (rose : Type 0) (found : Result (List Move) MoveFault) (r : Result (List Move) Refusal)
-    → GivesBy (λ (m : List Move). m) (moves_by text found) r → IsCausedBy held rose r
-moves_caused text held rose found r = given_caused (λ (m : List Move). m) held rose (moves_by text found) r (by found)
-  where
-    by : (f : Result (List Move) MoveFault) → IsCausedBy held rose (moves_by text f)
-    by (Ok moves) = tt
-    by (Err fault) = tt
-
--- the end of the run is no fault of a file
-pub dup_caused : (held : Option Held) (rose : Type 0) (targets : List Policy) (script : Script) (moves : List Move) (report : Report) (left : Option (ℕ × ℕ))
-    → IsTextCaused held rose (text_after targets script moves report left)
-dup_caused held rose targets script moves report None = tt
-dup_caused held rose targets script moves report (Some thread) = tt
-
 -- ---- its statuses, and its runs
 
-moves_refuse : (script : Script) (content : Content) → RefusesFor 3 (moves_in script content)
-moves_refuse script content = next 3 (text_in 3 content) _ (of_text 3 3 content (lit≤ tt) (lit≤ tt)) (λ text. by text _)
-  where
-    by : (text : List ℕ) (r : Result (List Move) MoveFault) → RefusesFor 3 (moves_by text r)
-    by text (Ok p) = tt
-    by text (Err fault) = (3, refl, lit≤ tt, lit≤ tt)
-
-moves_plain : (policies : List Policy) (script : Script) (moves : List Move) → EndsPlainly (moves_end policies script moves)
-moves_plain policies script moves s = by (whole_run policies script no_schedule).unfinished
-  where
-    by : (left : Option (ℕ × ℕ)) → text_after (setting_of policies script).policies script moves (whole_run policies script no_schedule).report left ≡ Err s → IsPlainStatus s
-    by None e = cc
-    by (Some thread) e = unfinished_plain thread s e
+moves_refuse : (script : Script) (text : FileContent) → text.which ≡ 3 → RefusesFor 3 (moves_of script text)
+moves_refuse script text n = third_text Moves 3 text (reading (length script.targets) text.bytes) n (lit≤ tt)
 
 pub dup_suited : IsSuited 3 dup_end
-dup_suited = script_suited 3 moves_after moves_end (lit≤ tt) (λ policies script files e. third_refuses (moves_in script) (moves_refuse script) files) moves_plain
+dup_suited =
+    script_suited 3 most_bytes (λ script. needed (moves_of script)) (ends moves_end) (lit≤ tt)
+    (λ script text third. of_needed (moves_of script) (moves_refuse script) text third) (λ policies script text moves third e. tt)
 
 pub dup_sound : RunsAreSound → ReadPoliciesAreWellMade → ReadScriptsAreReady → AreEndsSound (Plain dup_end)
 dup_sound law made ready =
-    each_end moves_after moves_end (λ (x : End). IfSome x.run IsSound)
-    (λ p s files ps script moves a b c. law ps script no_schedule (can_run made ready p s ps script no_schedule a b refl))
+    each_end most_bytes (λ script. needed (moves_of script)) (ends moves_end) (λ (x : End). IfSome x.run IsSound)
+    (λ first second files r reached parts e.
+    subst (λ (x : End). IfSome x.run IsSound) (same_end (moves_end r.0.policies r.0.script r.1) reached e)
+    (law r.0.policies r.0.script no_schedule (can_run made ready first second r.0.policies r.0.script no_schedule parts.policies parts.script refl)))

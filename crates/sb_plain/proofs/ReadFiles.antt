@@ -1,30 +1,19 @@
--- How the content of a file becomes what is read of it.
-use Rattle.std.proofs.Common.{◌≡◌, ◌∙◌, refl, sym, ap, subst, ℕ, ◌+◌, ◌<◌, ◌≤◌, inl, inr, true, false, nat_le, List, length, replicate, Option, None, Some, arith, Bool, cond}
-use Rattle.std.specs.Prelude.{IfOk, IsSomeAnd, Result, Ok, Err, ◌∷◌, [], map}
+-- How the content of a file becomes its text.
+use Rattle.std.proofs.Common.{◌≡◌, ◌⊎◌, ◌∙◌, refl, sym, ap, subst, ℕ, ◌+◌, ◌-◌, ◌<◌, ◌≤◌, inl, inr, true, false, Bool, cond, nat_le, List, length, replicate, Option, None, Some, arith}
+use Rattle.std.specs.Prelude.{zero, suc, IsOkAnd, IsSomeAnd, Result, Ok, Err, ◌∷◌, [], map, slice_set}
 use Rattle.std.proofs.lemmas.Bool.Decides.{nat_tests}
 use Rattle.std.proofs.lemmas.List.{length-replicate}
-use Rattle.sb_base.specs.Refusals.{GivesAs}
-use Rattle.sb_base.specs.declared.refusals.Refused.{Refused}
-use Rattle.sb_base.specs.declared.refusals.Refused.TheVariants as given
+use Rattle.sb_message.specs.declared.statuses.FileRefusal.{FileRefusal}
+use Rattle.sb_message.specs.declared.statuses.FileRefusal.TheVariants.{Missing, ReadFault, TooLong}
+use Rattle.sb_message.specs.declared.statuses.Refusal.TheVariants.{File, NoMemory}
 use Rattle.sb_outside.specs.Outside.{Held, IsContent, IsMissing, IsTooLong}
 use Rattle.sb_outside.specs.declared.files.FileFault.{FileFault}
 use Rattle.sb_outside.specs.declared.files.FileFault.TheVariants as file
 use Rattle.sb_outside.specs.declared.files.ReadCause.{ReadCause}
-use Rattle.sb_text.specs.Steps.{◌>>=◌}
-use Rattle.sb_core.specs.declared.runs.Ran.{Ran}
-use Rattle.sb_rule.specs.declared.policies.Policies.{Policies}
-use Rattle.sb_rule.specs.declared.policies.Policy.{Policy}
-use Rattle.sb_ruletext.specs.PolicyTexts.{PolicyFault, reading}
-use Rattle.sb_scripttext.specs.ScheduleTexts.{ScheduleFault}
-use Rattle.sb_scripttext.specs.ScriptTexts.{ScriptFault}
-use Rattle.sb_statements.specs.declared.schedules.Schedule.{Schedule}
-use Rattle.sb_statements.specs.declared.scripts.Script.{Script}
-use Rattle.sb_plain.specs.Coming.{GivesBy, IsCausedBy, IsRead, IsLaterBy, IsReadBy, IsScheduled, IsTextCaused}
-use Rattle.sb_plain.specs.Contents.{Content, Refusal, most_bytes, noted_policies_in, policies_by, policies_refusal, refused, schedule_by, schedule_in, script_by, status_of, text_in, text_within}
-use Rattle.sb_plain.specs.Ends.{AreContents, Contents, IsHeld}
+use Rattle.sb_plain.specs.Contents.{Content, Contents, FileContent, ShownRefusal, alone, file_within, missing, refusal_of, refused}
 use Rattle.sb_plain.specs.Endings.{IsCaused}
-use Rattle.sb_plain.specs.Replay.{run_text, schedule_of}
-use Rattle.sb_plain.specs.declared.outcomes.Status.TheVariants.{TooLong}
+use Rattle.sb_plain.specs.Ends.{AreContents, IsHeld}
+use Rattle.sb_plain.specs.Readings.{IsFound, IsFoundFor}
 
 -- ---- contents that are not looked at
 
@@ -46,25 +35,32 @@ are_rest held (name ∷ names) = (is_held held name, are_rest held names)
 
 -- ---- the text of a file
 
-pub short_text : (most n : ℕ) (text : List ℕ) → length text ≤ most → text_within most n (Some text) ≡ Ok text
+pub short_text : (most n : ℕ) (text : List ℕ) → length text ≤ most → file_within most n (Some text) ≡ Ok (record { which = n; bytes = text })
 short_text most n text l = let e : nat_le (length text) most ≡ true = grind (arith, nat_tests, l) in rw e refl
 
-long_text : (most n : ℕ) (text : List ℕ) → most < length text → text_within most n (Some text) ≡ Err (refused (TooLong n))
+long_text : (most n : ℕ) (text : List ℕ) → most < length text → file_within most n (Some text) ≡ Err (refused (File n TooLong))
 long_text most n text l = let e : nat_le (length text) most ≡ false = grind (arith, nat_tests, l) in rw e refl
 
+-- file n alone, of which this was found
+abbrev pub FoundAlone : ℕ → ℕ → Option Held → List ℕ → Result FileContent ShownRefusal → Type 0
+FoundAlone most n held name found = IsFound (λ (text : FileContent). text) n (alone n (file_within most n)) (name ∷ []) held found
+
 -- a file that was read
-pub text_read : {B : Type 0} (seen : B → List ℕ) (most : ℕ) (x : B) (n : ℕ) (held : Option Held) (name : List ℕ) → IsContent held name (seen x)
-    → length (seen x) ≤ most → IsRead seen n (text_within most n) held name (Ok x)
-text_read seen most x n None name e l = (Some (seen x), tt, short_text most n (seen x) l)
-text_read seen most x n (Some held) name e l = (Some (seen x), sym e, short_text most n (seen x) l)
+text_is : (most n : ℕ) (text : List ℕ) → length text ≤ most → IsOkAnd (file_within most n (Some text)) (λ x. ◌≡◌ {A = FileContent} (record { which = n; bytes = text }) x)
+text_is most n text l = subst (λ r. IsOkAnd r (λ x. ◌≡◌ {A = FileContent} (record { which = n; bytes = text }) x)) (sym (short_text most n text l)) refl
+
+pub text_read : (most n : ℕ) (text : List ℕ) (held : Option Held) (name : List ℕ) → IsContent held name text → length text ≤ most
+    → FoundAlone most n held name (Ok (record { which = n; bytes = text }))
+text_read most n text None name e l = record { contents = Some text ∷ []; are = (tt, tt); is = text_is most n text l }
+text_read most n text (Some held) name e l = record { contents = Some text ∷ []; are = (sym e, tt); is = text_is most n text l }
 
 -- a file that is missing or too long
-missing : {B : Type 0} (seen : B → List ℕ) (most n : ℕ) (held : Option Held) (name : List ℕ) (rose : Type 0) → IsMissing held name rose
-    → IsRead seen n (text_within most n) held name (Err (refused (status_of file.Missing n))) × IsCaused held rose (status_of file.Missing n)
-missing seen most n None name rose m = ((None, tt, inl refl), m)
-missing seen most n (Some held) name rose m = ((None, sym m, inl refl), tt)
+none_there : (most n : ℕ) (held : Option Held) (name : List ℕ) (rose : Type 0) → IsMissing held name rose
+    → FoundAlone most n held name (Err (refused (refusal_of file.Missing n))) × IsCaused held rose (refusal_of file.Missing n)
+none_there most n None name rose m = (record { contents = None ∷ []; are = (tt, tt); is = inl refl }, m)
+none_there most n (Some held) name rose m = (record { contents = None ∷ []; are = (sym m, tt); is = inl refl }, tt)
 
-long_content : (most : ℕ) (o : Content) (n : ℕ) → IsSomeAnd o (λ bytes. most < length bytes) → text_within most n o ≡ Err (refused (TooLong n))
+long_content : (most : ℕ) (o : Content) (n : ℕ) → IsSomeAnd o (λ bytes. most < length bytes) → file_within most n o ≡ Err (refused (File n TooLong))
 long_content most None n h = absurd h
 long_content most (Some text) n h = long_text most n text h
 
@@ -76,101 +72,84 @@ zeros_are : (n : ℕ) → length (zeros n) ≡ n
 unfolding zeros
 zeros_are n = length-replicate n 0
 
-too_long : {B : Type 0} (seen : B → List ℕ) (most n : ℕ) (held : Option Held) (name : List ℕ) (rose : Type 0) → IsTooLong held name most rose
-    → IsRead seen n (text_within most n) held name (Err (refused (status_of file.TooLong n))) × IsCaused held rose (status_of file.TooLong n)
-too_long seen most n None name rose m =
+too_long : (most n : ℕ) (held : Option Held) (name : List ℕ) (rose : Type 0) → IsTooLong held name most rose
+    → FoundAlone most n held name (Err (refused (refusal_of file.TooLong n))) × IsCaused held rose (refusal_of file.TooLong n)
+too_long most n None name rose m =
     let size : length (zeros (most + 1)) ≡ most + 1 = zeros_are (most + 1) in
-    ((Some (zeros (most + 1)), tt, inl (long_text most n (zeros (most + 1)) (omega (arith, size)))), m)
-too_long seen most n (Some held) name rose m = ((held name, refl, inl (long_content most (held name) n m)), tt)
+    (record { contents = Some (zeros (most + 1)) ∷ []; are = (tt, tt); is = inl (long_text most n (zeros (most + 1)) (omega (arith, size))) }, m)
+too_long most n (Some held) name rose m =
+    (record { contents = held name ∷ []; are = (refl, tt); is = inl (long_content most (held name) n m) }, tt)
+
+itself : (n : ℕ) → n - n ≡ 0
+itself n = omega arith
 
 -- and any file that was not read
-pub text_unread : {B : Type 0} (seen : B → List ℕ) (most n : ℕ) (held : Option Held) (name : List ℕ) (rose : Type 0) (fault : FileFault)
+pub text_unread : (most n : ℕ) (held : Option Held) (name : List ℕ) (rose : Type 0) (fault : FileFault)
     → ((cause : ReadCause) → fault ≡ file.Failed cause → rose) → (fault ≡ file.Missing → IsMissing held name rose) → (fault ≡ file.TooLong → IsTooLong held name most rose)
-    → IsRead seen n (text_within most n) held name (Err (refused (status_of fault n))) × IsCaused held rose (status_of fault n)
-text_unread seen most n held name rose file.Missing f m t = missing seen most n held name rose (m refl)
-text_unread seen most n held name rose file.TooLong f m t = too_long seen most n held name rose (t refl)
-text_unread seen most n held name rose (file.Failed cause) f m t = ((content_of held name, is_held held name, inr (inl (cause, refl))), f cause refl)
-text_unread seen most n held name rose file.NoMemory f m t = ((content_of held name, is_held held name, inr (inr refl)), tt)
+    → FoundAlone most n held name (Err (refused (refusal_of fault n))) × IsCaused held rose (refusal_of fault n)
+text_unread most n held name rose file.Missing f m t = none_there most n held name rose (m refl)
+text_unread most n held name rose file.TooLong f m t = too_long most n held name rose (t refl)
+text_unread most n held name rose (file.Failed cause) f m t =
+    let c = content_of held name in (
+      record {
+        contents = c ∷ [];
+        are = (is_held held name, tt);
+        is = inr (inl (n, (cause, refl), ap (λ (k : ℕ). alone n (file_within most n) (slice_set (c ∷ []) k None)) (itself n)));
+      },
+      f cause refl,
+    )
+text_unread most n held name rose file.NoMemory f m t =
+    (record { contents = content_of held name ∷ []; are = (is_held held name, tt); is = inr (inr refl) }, tt)
 
--- ---- what is read of the text
+-- ---- what a file alone tells of its content
 
--- a policy text that is refused
-pub policies_unread : {B : Type 0} (seen : B → List Policy) (text : List ℕ) (found : Result (List Policy) PolicyFault) (why : Refused PolicyFault) (refusal : Refusal)
-    → GivesAs seen found (Err why) → refusal ≡ policies_refusal text why → GivesBy seen (policies_by text found) (Err refusal)
-policies_unread seen text found (given.Fault fault) refusal g e =
-    inl (subst (λ (x : Refusal). policies_by text found ≡ Err x) (sym e) (ap (policies_by text) g))
-policies_unread seen text found given.NoMemory refusal g e = inr e
+-- file n was not read, or there was no memory
+abbrev pub IsFileFault : ℕ → ShownRefusal → Type 0
+IsFileFault n refusal = ((cause : ReadCause) × (refusal ≡ refused (File n (ReadFault cause)))) ⊎ (refusal ≡ refused NoMemory)
 
--- ---- causes
+-- file n has a content with this text, or that is refused for this; or it was not read
+abbrev pub IsOpened : ℕ → ℕ → Option Held → List ℕ → Result FileContent ShownRefusal → Type 0
+IsOpened most n held name (Ok text) = (content : Content) × IsHeld held name content × (file_within most n content ≡ Ok text)
+IsOpened most n held name (Err refusal) =
+    (content : Content) × IsHeld held name content × ((file_within most n content ≡ Err refusal) ⊎ IsFileFault n refusal)
 
--- what is given has its cause if what is wanted has
-pub given_caused : {A B : Type 0} (seen : B → A) (held : Option Held) (rose : Type 0) (wanted : Result A Refusal) (r : Result B Refusal)
-    → IsCausedBy held rose wanted → GivesBy seen wanted r → IsCausedBy held rose r
-given_caused seen held rose wanted (Ok x) h g = tt
-given_caused {A} seen held rose wanted (Err refusal) h (inl e) = subst (λ (x : Result A Refusal). IsCausedBy held rose x) e h
-given_caused seen held rose wanted (Err refusal) h (inr e) = subst (λ (x : Refusal). IsCaused held rose x.status) (sym e) tt
+-- the refusal for one file is that for no other
+pub refusal_same : {A : Type 0} (a b : ShownRefusal) → ◌≡◌ {A = Result A ShownRefusal} (Err a) (Err b) → a ≡ b
+refusal_same a b e = cc
 
--- a refusal of what a text says has no cause outside it
-pub policies_caused : {B : Type 0} (seen : B → List Policy) (text : List ℕ) (held : Option Held) (rose : Type 0) (found : Result (List Policy) PolicyFault) (r : Result B Refusal)
-    → GivesBy seen (policies_by text found) r → IsCausedBy held rose r
-policies_caused seen text held rose found r = given_caused seen held rose (policies_by text found) r (by found)
+pub file_same : (n m : ℕ) (why other : FileRefusal) → refused (File n why) ≡ refused (File m other) → n ≡ m
+file_same n m why other e = by (ap (λ (r : ShownRefusal). r.why) e)
   where
-    by : (f : Result (List Policy) PolicyFault) → IsCausedBy held rose (policies_by text f)
-    by (Ok policies) = tt
-    by (Err fault) = tt
+    by : File n why ≡ File m other → n ≡ m
+    by same = cc
 
-pub script_caused : {B : Type 0} (seen : B → Script) (text : List ℕ) (held : Option Held) (rose : Type 0) (found : Result Script ScriptFault) (r : Result B Refusal)
-    → GivesBy seen (script_by text found) r → IsCausedBy held rose r
-script_caused seen text held rose found r = given_caused seen held rose (script_by text found) r (by found)
+-- what is missing by the content of file n is file n
+pub misses : (most n m : ℕ) (content : Content) → file_within most n content ≡ Err (missing m) → n ≡ m
+misses most n m None e = file_same n m Missing Missing (refusal_same (missing n) (missing m) e)
+misses most n m (Some text) e = by (nat_le (length text) most) e
   where
-    by : (f : Result Script ScriptFault) → IsCausedBy held rose (script_by text f)
-    by (Ok script) = tt
-    by (Err fault) = tt
+    by : (test : Bool) → ◌≡◌ {A = Result FileContent ShownRefusal} (cond test (Ok (record { which = n; bytes = text })) (Err (refused (File n TooLong)))) (Err (missing m)) → n ≡ m
+    by true h = cc
+    by false h = file_same n m TooLong Missing (refusal_same (refused (File n TooLong)) (missing m) h)
 
-pub schedule_caused : (text : List ℕ) (held : Option Held) (rose : Type 0) (found : Result Schedule ScheduleFault) (r : Result Schedule Refusal)
-    → GivesBy (λ (s : Schedule). s) (schedule_by text found) r → IsCausedBy held rose r
-schedule_caused text held rose found r = given_caused (λ (s : Schedule). s) held rose (schedule_by text found) r (by found)
+set_misses : (most n m k : ℕ) (content : Content) → alone n (file_within most n) (slice_set (content ∷ []) k None) ≡ Err (missing m) → n ≡ m
+set_misses most n m zero content e = file_same n m Missing Missing (refusal_same (missing n) (missing m) e)
+set_misses most n m (suc k) content e = misses most n m content e
+
+same_text : (r : Result FileContent ShownRefusal) (text : FileContent) → IsOkAnd r (λ x. text ≡ x) → r ≡ Ok text
+same_text (Ok x) text e = ap Ok (sym e)
+same_text (Err refusal) text e = absurd e
+
+pub opened : (most n : ℕ) (held : Option Held) (name : List ℕ) (found : Result FileContent ShownRefusal) → FoundAlone most n held name found → IsOpened most n held name found
+opened most n held name found h = by h.contents h.are found h.is
   where
-    by : (f : Result Schedule ScheduleFault) → IsCausedBy held rose (schedule_by text f)
-    by (Ok schedule) = tt
-    by (Err fault) = tt
-
--- the end of a run is no fault of a file
-pub run_caused : (held : Option Held) (rose : Type 0) (script : Script) (r : Ran) (left : Option (ℕ × ℕ)) → IsTextCaused held rose (run_text script r left)
-run_caused held rose script r None = tt
-run_caused held rose script r (Some thread) = tt
-
--- ---- a schedule that is named
-
-pub scheduled : (script : Script) (held : Option Held) (name : List ℕ) (found : Result Schedule Refusal) → IsRead (λ s. s) 3 (schedule_in script) held name found
-    → IsScheduled script held (name ∷ []) found
-scheduled script held name (Ok schedule) h = (h.0 ∷ [], (h.1, tt), h.2)
-scheduled script held name (Err refusal) h = (h.0 ∷ [], (h.1, tt), by h.2)
-  where
-    by : IsReadBy (λ (s : Schedule). s) 3 (schedule_in script) h.0 (Err refusal) → IsLaterBy (schedule_of script) (h.0 ∷ []) (Err refusal)
-    by (inl e) = inl e
-    by (inr (inl u)) = inr (inl (u, refl))
-    by (inr (inr m)) = inr (inr m)
-
--- what the first file holds, if it has these policies
-kept_text : (b : Bool) (held text : List ℕ) → cond b (Ok held) (Err (refused (TooLong 1))) ≡ Ok text → held ≡ text
-kept_text true held text e = cc
-kept_text false held text e = cc
-
-noted_found : (content : Content) (text : List ℕ) (policies : List Policy) → text_in 1 content ≡ Ok text → policies_by text (reading text) ≡ Ok policies
-    → noted_policies_in content ≡ Ok (Some text, policies)
-noted_found None text policies t p = cc
-noted_found (Some held) text policies t p =
-    (λ i. (t i >>= λ x. policies_by x (reading x)) >>= λ q. Ok (Some held, q)) ∙ (λ i. p i >>= λ q. Ok (Some held, q))
-    ∙ ap (λ (h : List ℕ). Ok (Some h, policies)) (kept_text (nat_le (length held) most_bytes) held text t)
-
--- the same of what was read of it
-pub noted_read : (held : Option Held) (name text : List ℕ) (r : Result (List ℕ × Policies) Refusal)
-    → ((content : Content) × IsHeld held name content × (text_in 1 content ≡ Ok text))
-    → GivesBy (λ (n : List ℕ × Policies). n.1.list) (policies_by text (reading text)) r → IfOk r (λ n. n.0 ≡ text)
-    → IsRead (λ (n : List ℕ × Policies). (Some n.0, n.1.list)) 1 noted_policies_in held name r
-noted_read held name text (Ok n) h g same =
-    (h.0, h.1, subst (λ (t : List ℕ). noted_policies_in h.0 ≡ Ok (Some t, n.1.list)) (sym same) (noted_found h.0 text n.1.list h.2 g))
-noted_read held name text (Err refusal) h (inl g) same =
-    (h.0, h.1, inl ((λ i. (h.2 i >>= λ x. policies_by x (reading x)) >>= λ q. Ok (h.0, q)) ∙ (λ i. g i >>= λ q. Ok (h.0, q))))
-noted_read held name text (Err refusal) h (inr g) same = (h.0, h.1, inr (inr g))
+    by : (contents : Contents) → AreContents held (name ∷ []) contents → (r : Result FileContent ShownRefusal)
+        → IsFoundFor (λ (text : FileContent). text) n (alone n (file_within most n)) contents r → IsOpened most n held name r
+    by [] are r is = absurd are
+    by (content ∷ further ∷ contents) are r is = absurd are.1
+    by (content ∷ []) are (Ok text) is = (content, are.0, same_text (file_within most n content) text is)
+    by (content ∷ []) are (Err refusal) (inl e) = (content, are.0, inl e)
+    by (content ∷ []) are (Err refusal) (inr (inl u)) =
+        let n_is : n ≡ u.0 = set_misses most n u.0 (u.0 - n) content u.2 in
+        (content, are.0, inr (inl (u.1.0, u.1.1 ∙ ap (λ (m : ℕ). refused (File m (ReadFault u.1.0))) (sym n_is))))
+    by (content ∷ []) are (Err refusal) (inr (inr m)) = (content, are.0, inr (inr m))

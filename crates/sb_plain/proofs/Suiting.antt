@@ -1,111 +1,136 @@
--- Which statuses come: a refusal names a file of the command, and an end that puts nothing has a status that names none.
-use Rattle.std.proofs.Common.{◌≡◌, ◌≢◌, ◌∙◌, refl, sym, ap, subst, ℕ, suc, ◌-◌, ◌≤◌, inl, inr, List, length, Option, None, Some, lit≤, arith}
-use Rattle.std.specs.Prelude.{⊤, IfSome, IsOkAnd, Result, Ok, Err, ◌∷◌, [], nat_le, true, false, Bool, if◌then◌else◌}
+-- Which statuses come: a refusal names a file of the command, and an end has a status that names none.
+use Rattle.std.proofs.Common.{◌≡◌, ◌≢◌, ◌∙◌, refl, sym, ap, subst, ℕ, suc, ◌-◌, ◌≤◌, inl, inr, List, length, Option, None, Some, lit≤, arith, cond}
+use Rattle.std.specs.Prelude.{⊤, IfSome, IsOkAnd, Result, Ok, Err, ◌∷◌, [], nat_le, true, false, Bool}
 use Rattle.std.proofs.lemmas.List.{length-set}
 use Rattle.std.proofs.lemmas.Option.{none-some}
+use Rattle.sb_book.specs.ReadyScripts.{Ready}
 use Rattle.sb_commands.specs.declared.usage_faults.UsageFault.{UsageFault}
+use Rattle.sb_message.specs.Statuses.{status_of}
+use Rattle.sb_message.specs.declared.statuses.EndStatus.{EndStatus}
+use Rattle.sb_message.specs.declared.statuses.EndStatus.TheVariants as end
+use Rattle.sb_message.specs.declared.statuses.FileRefusal.TheVariants.{Missing, ReadFault, TooLong}
+use Rattle.sb_message.specs.declared.statuses.Refusal.{Refusal}
+use Rattle.sb_message.specs.declared.statuses.Refusal.TheVariants.{File, Usage}
+use Rattle.sb_message.specs.declared.statuses.Status.{Status}
+use Rattle.sb_message.specs.declared.statuses.Status.TheVariants.{Refused}
+use Rattle.sb_message.specs.declared.text_faults.TextFault.{TextFault}
+use Rattle.sb_message.specs.declared.text_faults.TextFault.TheVariants as fault
 use Rattle.sb_outside.specs.Outside.{Held}
 use Rattle.sb_rule.specs.declared.policies.Policy.{Policy}
-use Rattle.sb_ruletext.specs.PolicyTexts.{PolicyFault}
-use Rattle.sb_scripttext.specs.ScheduleTexts.{ScheduleFault}
-use Rattle.sb_scripttext.specs.ScriptTexts.{ScriptFault}
+use Rattle.sb_ruletext.specs.PolicyTexts as policies
+use Rattle.sb_scripttext.specs.ScheduleTexts as schedules
+use Rattle.sb_scripttext.specs.ScriptTexts as scripts
 use Rattle.sb_statements.specs.declared.schedules.Schedule.{Schedule}
 use Rattle.sb_statements.specs.declared.scripts.Script.{Script}
 use Rattle.sb_text.specs.Steps.{◌>>=◌}
-use Rattle.sb_plain.specs.Contents.{Content, Refusal, most_bytes, policies_by, policies_in, refused, schedule_by, schedule_in, script_by, script_in, text_in, text_within}
+use Rattle.sb_text.specs.declared.refusals.LineFault.{LineFault}
+use Rattle.sb_plain.specs.Contents.{Content, Contents, FileContent, ShownRefusal, file_in, file_within, most_bytes, policies_in, policies_of, read_as, refused, schedule_if, script_in, script_of}
 use Rattle.sb_plain.specs.Effects.{Effect}
-use Rattle.sb_plain.specs.Endings.{IsDone, IsEndFor, IsEnding, IsMeant, IsUnwritten, IsWritten}
-use Rattle.sb_plain.specs.Ends.{AreContents, Contents, End, Meaning, OnThreads, Plain, without}
+use Rattle.sb_plain.specs.Endings.{IsDone, IsEndFor, IsEnding, IsMeant, IsUnwritten}
+use Rattle.sb_plain.specs.Ends.{AreContents, End, Meaning, OnThreads, Plain, without}
 use Rattle.sb_plain.specs.Outcomes.{file_of}
-use Rattle.sb_plain.specs.Replay.{listed, schedule_of}
-use Rattle.sb_plain.specs.ScriptEnds.{script_end, third_by}
+use Rattle.sb_plain.specs.ScriptEnds.{later_text, needed, script_end, script_read}
 use Rattle.sb_plain.specs.declared.outcomes.Outcome.{Outcome}
-use Rattle.sb_plain.specs.declared.outcomes.Status.{Status}
-use Rattle.sb_plain.specs.declared.outcomes.Status.TheVariants.{Missing, ReadFault, TooLong, Unfinished, Usage}
-use Rattle.sb_plain.proofs.ScriptEnds.{each_end}
+use Rattle.sb_plain.proofs.ScriptEnds.{ReadParts, read_parts}
 
 -- ---- refusals
 
--- the status names one of this many files
-abbrev pub NamesFile : ℕ → Status → Type 0
-NamesFile files s = (n : ℕ) × (file_of s ≡ Some n) × (1 ≤ n) × (n ≤ files)
+-- the refusal names one of this many files
+abbrev pub NamesFile : ℕ → Refusal → Type 0
+NamesFile files why = (n : ℕ) × (file_of (Refused why) ≡ Some n) × (1 ≤ n) × (n ≤ files)
 
 -- each refusal names one
-abbrev pub RefusesFor : {A : Type 0} → ℕ → Result A Refusal → Type 0
+abbrev pub RefusesFor : {A : Type 0} → ℕ → Result A ShownRefusal → Type 0
 RefusesFor files (Ok x) = ⊤
-RefusesFor files (Err refusal) = NamesFile files refusal.status
+RefusesFor files (Err refusal) = NamesFile files refusal.why
 
-pub next : {A B : Type 0} (files : ℕ) (r : Result A Refusal) (f : A → Result B Refusal) → RefusesFor files r → ((x : A) → RefusesFor files (f x)) → RefusesFor files (r >>= f)
-next files (Ok x) f h k = k x
+pub next : {A B : Type 0} (files : ℕ) (r : Result A ShownRefusal) (f : A → Result B ShownRefusal) → RefusesFor files r → ((x : A) → r ≡ Ok x → RefusesFor files (f x))
+    → RefusesFor files (r >>= f)
+next files (Ok x) f h k = k x refl
 next files (Err r) f h k = h
 
-pub of_text_within : (most files n : ℕ) (content : Content) → 1 ≤ n → n ≤ files → RefusesFor files (text_within most n content)
-of_text_within most files n None l m = (n, refl, l, m)
-of_text_within most files n (Some text) l m = by (nat_le (length text) most)
+of_file : (most files n : ℕ) (content : Content) → 1 ≤ n → n ≤ files → RefusesFor files (file_within most n content)
+of_file most files n None l m = (n, refl, l, m)
+of_file most files n (Some bytes) l m = by (nat_le (length bytes) most)
   where
-    by : (b : Bool) → RefusesFor files (if b then Ok text else Err (refused (TooLong n)))
+    by : (b : Bool) → RefusesFor {A = FileContent} files (cond b (Ok (record { which = n; bytes = bytes })) (Err (refused (File n TooLong))))
     by true = tt
     by false = (n, refl, l, m)
 
-pub of_text : (files n : ℕ) (content : Content) → 1 ≤ n → n ≤ files → RefusesFor files (text_in n content)
-of_text files n content l m = of_text_within most_bytes files n content l m
+-- the text of file n is that of file n
+file_named : (most n : ℕ) (content : Content) (text : FileContent) → file_within most n content ≡ Ok text → n ≡ text.which
+file_named most n None text e = cc
+file_named most n (Some bytes) text e = by (nat_le (length bytes) most) e
+  where
+    by : (b : Bool) → ◌≡◌ {A = Result FileContent ShownRefusal} (cond b (Ok (record { which = n; bytes = bytes })) (Err (refused (File n TooLong)))) (Ok text) → n ≡ text.which
+    by true h = cc
+    by false h = cc
+
+-- of a text of one of this many files
+pub of_text : {A K : Type 0} (told : LineFault K → TextFault) (files : ℕ) (text : FileContent) (r : Result A (LineFault K)) → 1 ≤ text.which → text.which ≤ files
+    → RefusesFor files (read_as told text r)
+of_text told files text (Ok x) l m = tt
+of_text told files text (Err fault) l m = (text.which, refl, l, m)
 
 pub of_policies : (files : ℕ) (content : Content) → 1 ≤ files → RefusesFor files (policies_in content)
-of_policies files content l = next files (text_in 1 content) _ (of_text files 1 content (lit≤ tt) l) (λ text. by text _)
+of_policies files content l =
+    next files (file_in 1 content) policies_of (of_file most_bytes files 1 content (lit≤ tt) l)
+    (λ text e.
+    let n : 1 ≡ text.which = file_named most_bytes 1 content text e in
+    of_text fault.Policy files text (policies.reading text.bytes) (omega (arith, n)) (omega (arith, n, l)))
+
+pub of_script : (files : ℕ) (ps : List Policy) (content : Content) → 2 ≤ files → RefusesFor files (script_in ps content)
+of_script files ps content l =
+    next files (file_in 2 content) (script_of ps) (of_file most_bytes files 2 content (lit≤ tt) l)
+    (λ text e.
+    let n : 2 ≡ text.which = file_named most_bytes 2 content text e in
+    of_text fault.Script files text (scripts.reading ps text.bytes) (omega (arith, n)) (omega (arith, n, l)))
+
+-- the text of the third file, of this many
+abbrev pub IsThird : ℕ → Option FileContent → Type 0
+IsThird files None = ⊤
+IsThird files (Some text) = (text.which ≡ 3) × (3 ≤ files)
+
+later_refuses : (most files : ℕ) (contents : Contents) → suc (suc (length contents)) ≡ files → RefusesFor files (later_text most contents)
+later_refuses most files [] e = tt
+later_refuses most files (content ∷ []) e =
+    let third : 3 ≤ files = omega (arith, e) in
+    next files (file_within most 3 content) (λ text. Ok (Some text)) (of_file most files 3 content (lit≤ tt) third) (λ text h. tt)
+later_refuses most files (content ∷ further ∷ contents) e = (3, refl, lit≤ tt, omega (arith, e))
+
+abbrev OnLater : ℕ → Result (Option FileContent) ShownRefusal → Type 0
+OnLater files (Ok text) = IsThird files text
+OnLater files (Err refusal) = ⊤
+
+later_is_third : (most files : ℕ) (contents : Contents) → suc (suc (length contents)) ≡ files → OnLater files (later_text most contents)
+later_is_third most files [] e = tt
+later_is_third most files (content ∷ []) e = by (file_within most 3 content) refl
   where
-    by : (text : List ℕ) (r : Result (List Policy) PolicyFault) → RefusesFor files (policies_by text r)
-    by text (Ok p) = tt
-    by text (Err fault) = (1, refl, lit≤ tt, l)
+    by : (r : Result FileContent ShownRefusal) → file_within most 3 content ≡ r → OnLater files (r >>= λ text. Ok (Some text))
+    by (Ok text) h = (sym (file_named most 3 content text h), omega (arith, e))
+    by (Err refusal) h = tt
+later_is_third most files (content ∷ further ∷ contents) e = tt
 
-pub of_script : (files : ℕ) (policies : List Policy) (content : Content) → 2 ≤ files → RefusesFor files (script_in policies content)
-of_script files policies content l = next files (text_in 2 content) _ (of_text files 2 content (lit≤ tt) l) (λ text. by text _)
-  where
-    by : (text : List ℕ) (r : Result Script ScriptFault) → RefusesFor files (script_by text r)
-    by text (Ok p) = tt
-    by text (Err fault) = (2, refl, lit≤ tt, l)
+-- of the third file, which has to be there
+pub of_needed : {A : Type 0} (step : FileContent → Result A ShownRefusal) → ((text : FileContent) → text.which ≡ 3 → RefusesFor 3 (step text)) → (text : Option FileContent)
+    → IsThird 3 text → RefusesFor 3 (needed step text)
+of_needed step h None third = (3, refl, lit≤ tt, lit≤ tt)
+of_needed step h (Some text) third = h text third.0
 
-pub of_schedule_in : (files : ℕ) (script : Script) (content : Content) → 3 ≤ files → RefusesFor files (schedule_in script content)
-of_schedule_in files script content l = next files (text_in 3 content) _ (of_text files 3 content (lit≤ tt) l) (λ text. by text _)
-  where
-    by : (text : List ℕ) (r : Result Schedule ScheduleFault) → RefusesFor files (schedule_by text r)
-    by text (Ok p) = tt
-    by text (Err fault) = (3, refl, lit≤ tt, l)
+pub third_text : {A K : Type 0} (told : LineFault K → TextFault) (files : ℕ) (text : FileContent) (r : Result A (LineFault K)) → text.which ≡ 3 → 3 ≤ files
+    → RefusesFor files (read_as told text r)
+third_text told files text r n l = of_text told files text r (omega (arith, n)) (omega (arith, n, l))
 
--- of a third file alone
-pub third_refuses : {A : Type 0} (step : Content → Result A Refusal) → ((content : Content) → RefusesFor 3 (step content)) → (files : Contents)
-    → RefusesFor 3 (third_by step files)
-third_refuses step h [] = (3, refl, lit≤ tt, lit≤ tt)
-third_refuses step h (c ∷ []) = h c
-third_refuses step h (c ∷ d ∷ cs) = (3, refl, lit≤ tt, lit≤ tt)
-
--- of a schedule if one is named
-pub schedule_refuses : (schedule : Option (List ℕ)) (script : Script) (files : Contents) → length files ≡ length (listed schedule)
-    → RefusesFor (suc (suc (length (listed schedule)))) (schedule_of script files)
-schedule_refuses schedule script [] e = tt
-schedule_refuses None script (c ∷ cs) e = cc
-schedule_refuses (Some name) script (c ∷ []) e = of_schedule_in 3 script c (lit≤ tt)
-schedule_refuses (Some name) script (c ∷ d ∷ cs) e = (3, refl, lit≤ tt, lit≤ tt)
-
--- ---- ends
-
--- the status names no file, and is not Usage
-abbrev pub IsPlainStatus : Status → Type 0
-IsPlainStatus s = ((fault : UsageFault) → s ≢ Usage fault) × (file_of s ≡ None)
-
--- the end puts nothing only with such a status
-abbrev pub EndsPlainly : End → Type 0
-EndsPlainly end = (s : Status) → end.text ≡ Err s → IsPlainStatus s
-
--- as that a thread is unfinished
-pub unfinished_plain : (thread : ℕ × ℕ) (s : Status) → ◌≡◌ {A = Result (List ℕ) Status} (Err (Unfinished thread.0 thread.1)) (Err s) → IsPlainStatus s
-unfinished_plain thread s e = let is : Unfinished thread.0 thread.1 ≡ s = cc in subst IsPlainStatus is ((λ fault never. cc), refl)
+-- of a schedule that may be left out
+pub of_schedule : (files : ℕ) (script : Script) (text : Option FileContent) → IsThird files text → RefusesFor files (schedule_if script text)
+of_schedule files script None third = tt
+of_schedule files script (Some text) third = third_text fault.Schedule files text (schedules.reading script.targets text.bytes) third.0 third.1
 
 -- ---- commands
 
--- the refusals and the ends of a command of this many files
-pub record IsSuited (files : ℕ) (meaning : Contents → Result End Refusal) : Type 0 where
-  pub refuses : (contents : Contents) → length contents ≡ files → RefusesFor files (meaning contents)
-  pub plain : (contents : Contents) (end : End) → meaning contents ≡ Ok end → EndsPlainly end
+-- the refusals of a command of this many files
+abbrev pub IsSuited : ℕ → (Contents → Result End ShownRefusal) → Type 0
+IsSuited files meaning = (contents : Contents) → length contents ≡ files → RefusesFor files (meaning contents)
 
 -- for each order of steps
 abbrev pub AreSuited : ℕ → Meaning → Type 0
@@ -113,39 +138,47 @@ AreSuited files (Plain meaning) = IsSuited files meaning
 AreSuited files (OnThreads meaning) = (order : Schedule) → IsSuited files (meaning order)
 
 -- of a command that reads policies and a script first
-pub script_suited : {A : Type 0} (files : ℕ) (later : List Policy → Script → Contents → Result A Refusal) (end : List Policy → Script → A → End) → 2 ≤ files
-    → ((policies : List Policy) (script : Script) (rest : Contents) → suc (suc (length rest)) ≡ files → RefusesFor files (later policies script rest))
-    → ((policies : List Policy) (script : Script) (x : A) → EndsPlainly (end policies script x)) → IsSuited files (script_end later end)
-script_suited files later end l h p = record {
-  refuses = refuses;
-  plain = each_end later end EndsPlainly (λ first second rest policies script x a b c. p policies script x);
-}
+module _ {A : Type 0} (files most : ℕ) (later : Script → Option FileContent → Result A ShownRefusal) (end : List Policy → Script → A → Result End ShownRefusal)
+    (least : 2 ≤ files) (of_later : (script : Script) (text : Option FileContent) → IsThird files text → RefusesFor files (later script text))
+    (of_end : (policies : List Policy) (script : Script) (text : Option FileContent) (x : A) → IsThird files text → later script text ≡ Ok x → RefusesFor files (end policies script x))
   where
     one : 1 ≤ files
-    one = omega (arith, l)
+    one = omega (arith, least)
 
-    refuses : (contents : Contents) → length contents ≡ files → RefusesFor files (script_end later end contents)
-    refuses [] e = (1, refl, lit≤ tt, one)
-    refuses (first ∷ []) e = (1, refl, lit≤ tt, one)
-    refuses (first ∷ second ∷ rest) e =
-        next files (policies_in first) _ (of_policies files first one) (λ policies.
-        next files (script_in policies second) _ (of_script files policies second l) (λ script.
-        next files (later policies script rest) _ (h policies script rest e) (λ x. tt)))
+    third : (contents : Contents) → suc (suc (length contents)) ≡ files → (text : Option FileContent) → later_text most contents ≡ Ok text → IsThird files text
+    third contents e text h = subst (OnLater files) h (later_is_third most files contents e)
+
+    of_read : (first second : Content) (contents : Contents) → suc (suc (length contents)) ≡ files → RefusesFor files (script_read most later (first ∷ second ∷ contents))
+    of_read first second contents e =
+        next files (policies_in first) _ (of_policies files first one) (λ policies k.
+        next files (script_in policies second) _ (of_script files policies second least) (λ script m.
+        next files (later_text most contents) _ (later_refuses most files contents e) (λ text h.
+        next files (later script text) _ (of_later script text (third contents e text h)) (λ x n. tt))))
+
+    pub script_suited : IsSuited files (script_end most later end)
+    script_suited [] e = (1, refl, lit≤ tt, one)
+    script_suited (first ∷ []) e = (1, refl, lit≤ tt, one)
+    script_suited (first ∷ second ∷ contents) e =
+        next files (script_read most later (first ∷ second ∷ contents)) (λ r. end r.0.policies r.0.script r.1) (of_read first second contents e) (λ r h.
+        let parts = read_parts most later first second contents r h in
+        of_end r.0.policies r.0.script parts.text r.1 (third contents e parts.text parts.is_text) parts.value)
 
 -- ---- the status of a call
 
 -- it is not Usage, and if it names a file it names one of this many
 abbrev pub Suits : ℕ → Status → Type 0
-Suits files s = ((fault : UsageFault) → s ≢ Usage fault) × IfSome (file_of s) (λ n. (1 ≤ n) × (n ≤ files))
+Suits files s = ((fault : UsageFault) → s ≢ Refused (Usage fault)) × IfSome (file_of s) (λ n. (1 ≤ n) × (n ≤ files))
 
-named_suits : (files : ℕ) (s : Status) → NamesFile files s → Suits files s
-named_suits files s h = (
+named_suits : (files : ℕ) (why : Refusal) → NamesFile files why → Suits files (Refused why)
+named_suits files why h = (
   λ fault e. none-some h.0 (sym (ap file_of e) ∙ h.1),
   let P : Option ℕ → Type 0 = λ x. IfSome x (λ n. (1 ≤ n) × (n ≤ files)) in subst P (sym h.1) (h.2, h.3),
 )
 
-plain_suits : (files : ℕ) (s : Status) → IsPlainStatus s → Suits files s
-plain_suits files s h = (h.0, let P : Option ℕ → Type 0 = λ x. IfSome x (λ n. (1 ≤ n) × (n ≤ files)) in subst P (sym h.1) tt)
+end_suits : (files : ℕ) (s : EndStatus) → Suits files (status_of s)
+end_suits files end.Done = ((λ fault never. cc), tt)
+end_suits files (end.Differs difference) = ((λ fault never. cc), tt)
+end_suits files (end.Unfinished target thread) = ((λ fault never. cc), tt)
 
 -- the number of contents
 pub counted : (held : Option Held) (names : List (List ℕ)) (contents : Contents) → AreContents held names contents → length contents ≡ length names
@@ -155,33 +188,25 @@ counted held (name ∷ names) [] h = absurd h
 counted held (name ∷ names) (c ∷ contents) h = ap suc (counted held names contents h.1)
 
 module _ {G S : Type 0} (e : Effect G S) (o : Outcome) (files : ℕ) where
-  done_suits : (end : End) → EndsPlainly end → IsDone end e o → Suits files o.status
-  done_suits end plain d = by end.text refl d.written
-    where
-      by : (text : Result (List ℕ) Status) → end.text ≡ text → IsWritten text e o → Suits files o.status
-      by (Ok text) is w = subst (Suits files) (sym w.0) ((λ fault never. cc), tt)
-      by (Err s) is w = subst (Suits files) (sym w.0) (plain_suits files s (plain s is))
+  meant_suits : (r : Result End ShownRefusal) → RefusesFor files r → IsMeant r e o → Suits files o.status
+  meant_suits (Ok end) refuses m = subst (Suits files) (sym m.status) (end_suits files end.status)
+  meant_suits (Err refusal) refuses m = subst (Suits files) (sym m.status) (named_suits files refusal.why refuses)
 
-  meant_suits : (r : Result End Refusal) → RefusesFor files r → ((end : End) → r ≡ Ok end → EndsPlainly end) → IsMeant r e o → Suits files o.status
-  meant_suits (Ok end) refuses plain m = done_suits end (plain end refl) m
-  meant_suits (Err refusal) refuses plain m = subst (Suits files) (sym m.status) (named_suits files refusal.status refuses)
-
-  unwritten_suits : (r : Result End Refusal) → IsOkAnd r (λ x. IsUnwritten x e o) → Suits files o.status
+  unwritten_suits : (r : Result End ShownRefusal) → IsOkAnd r (λ x. IsUnwritten x e o) → Suits files o.status
   unwritten_suits (Ok end) u = subst (Suits files) (sym u.status) ((λ fault never. cc), tt)
   unwritten_suits (Err refusal) u = absurd u
 
-  suits : (meaning : Contents → Result End Refusal) (contents : Contents) → IsSuited files meaning → length contents ≡ files → IsEndFor meaning contents e o
+  suits : (meaning : Contents → Result End ShownRefusal) (contents : Contents) → IsSuited files meaning → length contents ≡ files → IsEndFor meaning contents e o
       → Suits files o.status
-  suits meaning contents known size (inl m) = meant_suits (meaning contents) (known.refuses contents size) (known.plain contents) m
+  suits meaning contents known size (inl m) = meant_suits (meaning contents) (known contents size) m
   suits meaning contents known size (inr (inl u)) =
-      let missing : NamesFile files (Missing u.file) =
-      subst (RefusesFor files) u.reached (known.refuses (without u.file contents) (length-set contents (u.file - 1) None ∙ size)) in
-      let at : NamesFile files (ReadFault u.file u.cause) = missing in
-      subst (Suits files) (sym u.is.status) (named_suits files (ReadFault u.file u.cause) at)
+      let missing : NamesFile files (File u.file Missing) =
+      subst (RefusesFor files) u.reached (known (without u.file contents) (length-set contents (u.file - 1) None ∙ size)) in
+      subst (Suits files) (sym u.is.status) (named_suits files (File u.file (ReadFault u.cause)) missing)
   suits meaning contents known size (inr (inr (inl u))) = unwritten_suits (meaning contents) u
   suits meaning contents known size (inr (inr (inr s))) = subst (Suits files) (sym s.status) ((λ fault never. cc), tt)
 
--- a command whose refusals and ends are so
+-- a command whose refusals are so
 pub ending_suits : {G S : Type 0} (e : Effect G S) (o : Outcome) (meaning : Meaning) (names : List (List ℕ)) → AreSuited (length names) meaning → IsEnding meaning names e o
     → Suits (length names) o.status
 ending_suits e o (Plain meaning) names known h = suits e o (length names) meaning h.contents known (counted e.held names h.contents h.held) h.ends

@@ -1,98 +1,124 @@
 -- What the files of a command hold, by their place in the command, and what is read of each.
-use Rattle.std.specs.Prelude.{ℕ, nat_le, List, [], length, Option, None, Some, Result, Ok, Err, if◌then◌else◌}
+use Rattle.std.specs.Prelude.{ℕ, nat_le, List, [], ◌∷◌, length, Option, None, Some, Result, Ok, Err, if◌then◌else◌}
 use Rattle.sb_base.specs.declared.refusals.Refused.{Refused}
 use Rattle.sb_base.specs.declared.refusals.Refused.TheVariants as given
+use Rattle.sb_message.specs.declared.statuses.FileRefusal.TheVariants.{Missing, TooLong, ReadFault}
+use Rattle.sb_message.specs.declared.statuses.Refusal.{Refusal}
+use Rattle.sb_message.specs.declared.statuses.Refusal.TheVariants.{File, Text, NoMemory}
+use Rattle.sb_message.specs.declared.text_faults.TextFault.{TextFault}
+use Rattle.sb_message.specs.declared.text_faults.TextFault.TheVariants as fault
 use Rattle.sb_outside.specs.declared.files.FileFault.{FileFault}
 use Rattle.sb_outside.specs.declared.files.FileFault.TheVariants as file
 use Rattle.sb_rule.specs.declared.policies.Policy.{Policy}
-use Rattle.sb_ruletext.specs.PolicyTexts.{PolicyFault}
 use Rattle.sb_ruletext.specs.PolicyTexts as policies
 use Rattle.sb_scripttext.specs.ScheduleLimits as limits
 use Rattle.sb_scripttext.specs.ScheduleLimits.{most_rounds}
 use Rattle.sb_scripttext.specs.ScheduleTexts as schedules
-use Rattle.sb_scripttext.specs.ScheduleTexts.{ScheduleFault}
 use Rattle.sb_scripttext.specs.ScriptTexts as scripts
-use Rattle.sb_scripttext.specs.ScriptTexts.{ScriptFault}
 use Rattle.sb_statements.specs.declared.schedules.Schedule.{Schedule}
 use Rattle.sb_statements.specs.declared.scripts.Script.{Script}
 use Rattle.sb_text.specs.Lines.{line_numbered}
 use Rattle.sb_text.specs.Steps.{◌>>=◌}
-use Rattle.sb_plain.specs.declared.outcomes.Status.{Status}
-use Rattle.sb_plain.specs.declared.outcomes.Status.TheVariants.{PolicyRefused, ScriptRefused, ScheduleRefused, Missing, TooLong, ReadFault, NoMemory}
+use Rattle.sb_text.specs.declared.refusals.LineFault.{LineFault}
 
--- why a command is not carried out: its status, and the line of a text to show with it
-pub record Refusal : Type 0 where
-  pub status : Status
+-- ---- refusals
+
+-- why a command is not carried out, and the line of a text to show with it
+pub record ShownRefusal : Type 0 where
+  pub why : Refusal
   pub shown : Option (List ℕ)
 
 -- a refusal that shows no line
-abbrev pub refused : Status → Refusal
-refused status = record { status = status; shown = None }
+abbrev pub refused : Refusal → ShownRefusal
+refused why = record { why = why; shown = None }
 
--- a refusal at this line of a text, which is shown
-abbrev pub refused_at : ℕ → List ℕ → Status → Refusal
-refused_at line text status = record { status = status; shown = line_numbered line text }
+-- file n is missing
+abbrev pub missing : ℕ → ShownRefusal
+missing n = refused (File n Missing)
+
+-- ---- files
 
 -- the bytes of a file, if there is one
 abbrev pub Content : Type 0
 Content = Option (List ℕ)
 
+-- the contents of a command's files, in their order in the command
+abbrev pub Contents : Type 0
+Contents = List Content
+
+-- what file n holds
+pub record FileContent : Type 0 where
+  pub which : ℕ
+  pub bytes : List ℕ
+
 -- the most bytes that a file may have
 abbrev pub most_bytes : ℕ
 most_bytes = limits.most_bytes
 
--- the text of file n, by its content, if it has at most this many bytes
-abbrev pub text_within : ℕ → ℕ → Content → Result (List ℕ) Refusal
-text_within most n None = Err (refused (Missing n))
-text_within most n (Some text) = if nat_le (length text) most then Ok text else Err (refused (TooLong n))
+-- file n by its content, if it has at most this many bytes
+abbrev pub file_within : ℕ → ℕ → Content → Result FileContent ShownRefusal
+file_within most n None = Err (missing n)
+file_within most n (Some bytes) = if nat_le (length bytes) most then Ok (record { which = n; bytes = bytes }) else Err (refused (File n TooLong))
 
 -- the same of each file but a transcript
-abbrev pub text_in : ℕ → Content → Result (List ℕ) Refusal
-text_in n content = text_within most_bytes n content
+abbrev pub file_in : ℕ → Content → Result FileContent ShownRefusal
+file_in n content = file_within most_bytes n content
 
--- the status of a fault of file n
-abbrev pub status_of : FileFault → ℕ → Status
-status_of file.Missing n = Missing n
-status_of file.TooLong n = TooLong n
-status_of (file.Failed cause) n = ReadFault n cause
-status_of file.NoMemory n = NoMemory
+-- one file alone
+abbrev pub alone : {A : Type 0} → ℕ → (Content → Result A ShownRefusal) → Contents → Result A ShownRefusal
+alone n step (content ∷ []) = step content
+alone n step _ = Err (missing n)
 
--- the policies of a text, or its fault
-abbrev pub policies_by : List ℕ → Result (List Policy) PolicyFault → Result (List Policy) Refusal
-policies_by text (Ok policies) = Ok policies
-policies_by text (Err fault) = Err (refused_at fault.line text (PolicyRefused fault))
+-- the refusal for what an environment tells of file n
+abbrev pub refusal_of : FileFault → ℕ → Refusal
+refusal_of file.Missing n = File n Missing
+refusal_of file.TooLong n = File n TooLong
+refusal_of (file.Failed cause) n = File n (ReadFault cause)
+refusal_of file.NoMemory n = NoMemory
 
--- the refusal of a text of which no policies were read
-abbrev pub policies_refusal : List ℕ → Refused PolicyFault → Refusal
-policies_refusal text (given.Fault fault) = refused_at fault.line text (PolicyRefused fault)
-policies_refusal text given.NoMemory = refused NoMemory
+-- ---- texts
 
--- the policies of the first file
-abbrev pub policies_in : Content → Result (List Policy) Refusal
-policies_in content = text_in 1 content >>= λ text. policies_by text (policies.reading text)
+-- the text of a file is refused at this line, which is shown
+abbrev pub refused_at : FileContent → ℕ → TextFault → ShownRefusal
+refused_at text line fault = record { why = Text text.which fault; shown = line_numbered line text.bytes }
 
--- the same with what the file holds
-abbrev pub noted_policies_in : Content → Result (Content × List Policy) Refusal
-noted_policies_in content = policies_in content >>= λ policies. Ok (content, policies)
+-- a text is refused as its reader refuses it
+abbrev pub fault_refusal : {K : Type 0} → (LineFault K → TextFault) → FileContent → Refused (LineFault K) → ShownRefusal
+fault_refusal told text (given.Fault fault) = refused_at text fault.line (told fault)
+fault_refusal told text given.NoMemory = refused NoMemory
 
--- the script of a text, or its fault
-abbrev pub script_by : List ℕ → Result Script ScriptFault → Result Script Refusal
-script_by text (Ok script) = Ok script
-script_by text (Err fault) = Err (refused_at fault.line text (ScriptRefused fault))
+-- what is read of a text, or its fault
+abbrev pub read_as : {A K : Type 0} → (LineFault K → TextFault) → FileContent → Result A (LineFault K) → Result A ShownRefusal
+read_as told text (Ok x) = Ok x
+read_as told text (Err fault) = Err (refused_at text fault.line (told fault))
 
--- the script of the second file, for targets of these policies
-abbrev pub script_in : List Policy → Content → Result Script Refusal
-script_in policies content = text_in 2 content >>= λ text. script_by text (scripts.reading policies text)
+-- the policies of a text
+abbrev pub policies_of : FileContent → Result (List Policy) ShownRefusal
+policies_of text = read_as fault.Policy text (policies.reading text.bytes)
 
--- the schedule of a text, or its fault
-abbrev pub schedule_by : List ℕ → Result Schedule ScheduleFault → Result Schedule Refusal
-schedule_by text (Ok schedule) = Ok schedule
-schedule_by text (Err fault) = Err (refused_at fault.line text (ScheduleRefused fault))
+-- the script of a text, for targets of these policies
+abbrev pub script_of : List Policy → FileContent → Result Script ShownRefusal
+script_of policies text = read_as fault.Script text (scripts.reading policies text.bytes)
 
--- the schedule of the third file, for the actors of this script
-abbrev pub schedule_in : Script → Content → Result Schedule Refusal
-schedule_in script content = text_in 3 content >>= λ text. schedule_by text (schedules.reading script.targets text)
+-- the schedule of a text, for the actors of this script
+abbrev pub schedule_in : Script → FileContent → Result Schedule ShownRefusal
+schedule_in script text = read_as fault.Schedule text (schedules.reading script.targets text.bytes)
 
 -- the schedule if no file is named: no steps, and as many rounds as a schedule may have
 abbrev pub no_schedule : Schedule
 no_schedule = record { steps = []; rounds = most_rounds }
+
+-- the schedule of a text, if there is one
+abbrev pub schedule_if : Script → Option FileContent → Result Schedule ShownRefusal
+schedule_if script None = Ok no_schedule
+schedule_if script (Some text) = schedule_in script text
+
+-- ---- policies and a script
+
+-- the policies of the first file
+abbrev pub policies_in : Content → Result (List Policy) ShownRefusal
+policies_in content = file_in 1 content >>= policies_of
+
+-- the script of the second file, for targets of these policies
+abbrev pub script_in : List Policy → Content → Result Script ShownRefusal
+script_in policies content = file_in 2 content >>= script_of policies

@@ -3,16 +3,12 @@ use Rattle.std.specs.Prelude.{◌≡◌, ⊤, ℕ, ◌-◌, List, [], ◌∷◌,
 use Rattle.sb_book.specs.declared.reports.Report.{Report}
 use Rattle.sb_core.specs.Runs.{CanRun}
 use Rattle.sb_core.specs.declared.runs.Ran.{Ran}
+use Rattle.sb_message.specs.declared.statuses.EndStatus.{EndStatus}
 use Rattle.sb_outside.specs.Outside.{Held}
 use Rattle.sb_rule.specs.declared.policies.Policy.{Policy}
 use Rattle.sb_statements.specs.declared.schedules.Schedule.{Schedule}
 use Rattle.sb_statements.specs.declared.scripts.Script.{Script}
-use Rattle.sb_plain.specs.Contents.{Content, Refusal}
-use Rattle.sb_plain.specs.declared.outcomes.Status.{Status}
-
--- the contents of a command's files, in their order in the command
-abbrev pub Contents : Type 0
-Contents = List Content
+use Rattle.sb_plain.specs.Contents.{Content, Contents, ShownRefusal}
 
 -- a run of a script under policies
 pub record ScriptRun : Type 0 where
@@ -20,12 +16,13 @@ pub record ScriptRun : Type 0 where
   pub script : Script
   pub ran : Ran
 
--- how a command ends that is not refused: it is done and writes these bytes, or ends with a status and puts nothing; its run, if it makes one; and the
--- policy text whose notes are told, if it has them told
+-- how a command ends that is not refused: what it writes, if anything is put; its status after that; its run, if it makes one; and the policy text whose notes are
+-- told, if it has them told
 pub record End : Type 0 where
-  pub text : Result (List ℕ) Status
+  pub text : Option (List ℕ)
+  pub status : EndStatus
   pub run : Option ScriptRun
-  pub noted : Option (List ℕ)
+  pub notes : Option (List ℕ)
 
 -- the report of an end is that of its run
 abbrev pub report_of : End → Option Report
@@ -34,8 +31,8 @@ report_of end = option_map (λ run. run.ran.report) end.run
 -- What a command means. Most commands have one end, by the contents of their files. A command that runs on threads ends as a run by some order of steps does,
 -- which is given as a schedule
 pub data Meaning : Type 0 where
-  Plain : (Contents → Result End Refusal) → Meaning
-  OnThreads : (Schedule → Contents → Result End Refusal) → Meaning
+  Plain : (Contents → Result End ShownRefusal) → Meaning
+  OnThreads : (Schedule → Contents → Result End ShownRefusal) → Meaning
 
 -- the schedule is an order of steps of the run's actors, without rounds, that leaves no thread unfinished
 pub record IsOrder (order : Schedule) (run : ScriptRun) : Type 0 where
@@ -58,6 +55,10 @@ AreContents held [] [] = ⊤
 AreContents held (name ∷ names) (content ∷ contents) = IsHeld held name content × AreContents held names contents
 AreContents held _ _ = ⊥
 
+-- the contents as they are if there is no file n, of files that are numbered from the first
+abbrev pub without_from : ℕ → ℕ → Contents → Contents
+without_from first n contents = slice_set contents (n - first) None
+
 -- the contents as they are if there is no file n
 abbrev pub without : ℕ → Contents → Contents
-without n contents = slice_set contents (n - 1) None
+without n contents = without_from 1 n contents

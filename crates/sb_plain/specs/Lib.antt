@@ -4,7 +4,7 @@ pub mod Effects
 pub mod Ends
 pub mod ScriptEnds
 pub mod Endings
-pub mod Coming
+pub mod Readings
 pub mod Putting
 pub mod Audit
 pub mod Check

@@ -15,7 +15,8 @@ use Rattle.sb_core.specs.declared.runs.Ran.{Ran}
 use Rattle.sb_rule.specs.declared.policies.Policy.{Policy}
 use Rattle.sb_statements.specs.declared.schedules.Schedule.{Schedule}
 use Rattle.sb_statements.specs.declared.scripts.Script.{Script}
-use Rattle.sb_plain.specs.Ends.{Contents, End, IsOrderOf, Meaning, OnThreads, Plain, ScriptRun}
+use Rattle.sb_plain.specs.Contents.{Contents}
+use Rattle.sb_plain.specs.Ends.{End, IsOrderOf, Meaning, OnThreads, Plain, ScriptRun}
 use Rattle.sb_plain.specs.Replay.{whole_run}
 
 -- What a run reports: its entries are a legal history, which led to its namespace; each result is that of the statement at its place; each

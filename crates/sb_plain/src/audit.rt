@@ -1,19 +1,20 @@
-// The command `audit`: policies, a script and a transcript are read, and what the audit of the transcript answers is put.
-ghost use Rattle.std.specs.Prelude.{◌≡◌, ◌<◌, ◌+◌, ◌^◌, ◌⊎◌, ◌∷◌, [], length, MatchOption, None, Some, IfOk};
+// The command `audit`: a transcript is audited under policies and a script, and what the audit answers is put.
+ghost use Rattle.std.specs.Prelude.{◌≡◌, ◌<◌, ◌+◌, ◌^◌, ◌⊎◌, length, MatchOption, None, Some, IfErr, IfOk};
 ghost use Rattle.sb_audit.specs.Audited.{audited};
-ghost use Rattle.sb_plain.specs.Audit.{answer_by, answer_in, answer_to, audit_end, raw_line, refuted_at, yes_line};
-ghost use Rattle.sb_plain.specs.Coming.{GivesBy, IsCausedBy, IsEndCaused, IsFound, IsRead, KeepsFiles};
+ghost use Rattle.sb_plain.specs.Audit.{audited_end, raw_line, refuted_at, yes_line};
+ghost use Rattle.sb_plain.specs.Readings.{GivesEnd, IsOfText};
 ghost use Rattle.sb_plain.specs.Contents.{refused};
 
+use crate::driver::LaterFile;
 use crate::ends::CommandEnd;
-use crate::outcomes::Status;
-use crate::reading::{opened_in, text_within};
-use crate::refusals::{Refused, end_or_refusal};
+use crate::file_texts::FileText;
+use crate::refusals::Refused;
 use sb_audit::{AuditAnswer, Refuted, audit};
 use sb_base::NoMemory;
 use sb_book::{OpenedScript, ReadyScript};
 use sb_compile::Programs;
-use sb_outside::Files;
+use sb_message::{Refusal, TextFault};
+use sb_statements::SoundScript;
 use sb_text::{RawLines, TextPart};
 use std::alloc::Global;
 
@@ -37,18 +38,18 @@ fn raw_line(number: u32, text: &[u8]) -> Option<&[u8]>
 }
 
 // The refusal of a transcript that is refuted, with the line at which it is.
-fn refuted_at(alloc: Global, refuted: Refuted, text: &[u8]) -> Refused
-    requires { length text.now < 2 ^ 32 }
-    ensures { (result ≡ refuted_at refuted text.now) ⊎ (result ≡ refused Status.NoMemory) }
+fn refuted_at(alloc: Global, refuted: Refuted, text: FileText) -> Refused
+    ensures refusal { (result ≡ refuted_at refuted text) ⊎ (result ≡ refused Refusal.NoMemory) }
+    ensures of_text { IsOfText result.why }
 {
-    let status = Status::AuditNo(refuted);
-    match raw_line(refuted.line, text) {
-        Some(shown) => match Vec::from_slice(alloc, shown) {
-            Ok(shown) => Refused::at(status, TextPart::whole(shown)),
-            Err(_) => Refused::new(Status::NoMemory),
+    let shown = match raw_line(refuted.line, text.bytes()) {
+        Some(line) => match Vec::from_slice(alloc, line) {
+            Ok(line) => Some(TextPart::whole(line)),
+            Err(_) => return Refused::new(Refusal::NoMemory),
         },
-        None => Refused::new(status),
-    }
+        None => None,
+    };
+    text.refused_with(TextFault::Transcript(refuted), shown)
 }
 
 // `audit yes entries E results S`, with its LF.
@@ -57,17 +58,6 @@ fn yes_line(alloc: Global, entries: u64, results: u64) -> Result<Vec<u8>, NoMemo
 {
     let line = format!(in alloc; "audit yes entries {entries} results {results}\n")?;
     Ok(line.into_bytes())
-}
-
-// What is written of an answer, or the refusal of the transcript.
-fn answer_by(alloc: Global, text: &[u8], answer: AuditAnswer) -> Result<Vec<u8>, Refused>
-    requires { length text.now < 2 ^ 32 }
-    ensures { GivesBy (λ line. line.items) (answer_by text.now answer) result }
-{
-    match answer {
-        AuditAnswer::Yes { entries, results } => Ok(yes_line(alloc, entries, results)?),
-        AuditAnswer::No(refuted) => Err(refuted_at(alloc, refuted, text)),
-    }
 }
 
 // The answer to a transcript under the policies of a script, whose programs judge it.
@@ -79,43 +69,59 @@ fn audited(alloc: Global, ready: &ReadyScript, text: &[u8]) -> Result<AuditAnswe
     audit(alloc, &judge, ready, text)
 }
 
-// What is written of the audit of a transcript, or its refusal.
-fn answer_to(alloc: Global, ready: &ReadyScript, text: &[u8]) -> Result<Vec<u8>, Refused>
-    requires { length text.now + 1 < 2 ^ 32 }
-    ensures { GivesBy (λ line. line.items) (answer_to ready.now.policies ready.now.script text.now) result }
-{
-    let answer = audited(alloc, ready, text)?;
-    answer_by(alloc, text, answer)
+/// The file after the script is a transcript of at most 536,870,912 bytes.
+pub struct TranscriptFile;
+
+impl LaterFile for TranscriptFile {
+    type Value = FileText;
+
+    ghost use Rattle.std.specs.Prelude.{⊤, Ok};
+    ghost use Rattle.sb_plain.specs.Audit.{most_transcript_bytes};
+    ghost use Rattle.sb_plain.specs.ScriptEnds.{is_named, needed};
+
+    ghost most = { λ _. most_transcript_bytes };
+
+    ghost reads = { λ _ script. needed Ok };
+
+    ghost named = { λ _. is_named };
+
+    ghost suits = { λ _ script text. ⊤ };
+
+    fn most_bytes(&self) -> u64 {
+        MAX_TRANSCRIPT_BYTES
+    }
+
+    fn read(
+        &self,
+        _alloc: Global,
+        _script: &SoundScript,
+        text: Option<FileText>,
+    ) -> Result<FileText, Refused> {
+        match text {
+            Some(text) => Ok(text),
+            None => Err(Refused::missing(3)),
+        }
+    }
 }
 
-// The same of the transcript of the third file.
-fn answer_in<F: Files>(
+/// The command `audit`: a transcript is audited under policies and a script. If no clause fails, a line is put that tells its numbers of entries and results.
+///
+/// # Errors
+/// The transcript is refused at the first line at which a clause fails; or `NoMemory`.
+pub fn audit_text(
     alloc: Global,
-    files: &mut F,
-    ready: &ReadyScript,
-    name: &str,
-) -> Result<Vec<u8>, Refused>
-    ensures files { KeepsFiles IsCausedBy F.held F.faults files.old files.new result }
-    ensures read { IsRead (λ line. line.items) 3 (answer_in ready.now.policies ready.now.script) (F.held files.old) name.now result }
-{
-    let text = text_within(alloc, files, name, 3, MAX_TRANSCRIPT_BYTES)?;
-    answer_to(alloc, ready, &text)
-}
-
-/// Reads policies, a script and a transcript of at most 536,870,912 bytes, in this order, and audits the transcript under them: a transcript at
-/// which no clause fails ends with a line that tells its numbers of entries and results, and another is refused at the line of the first that does.
-pub fn audit_transcript<F: Files>(
-    alloc: Global,
-    files: &mut F,
-    policy: &str,
-    script: &str,
-    transcript: &str,
+    opened: OpenedScript,
+    text: FileText,
 ) -> Result<CommandEnd, Refused>
-    ensures files { KeepsFiles IsEndCaused F.held F.faults files.old files.new result }
-    ensures found { IsFound audit_end (policy.now ∷ script.now ∷ transcript.now ∷ []) (F.held files.old) result }
+    ensures given { GivesEnd (audited_end opened.policies opened.script text) result }
+    ensures refused { IfErr result (λ refusal. IsOfText refusal.why) }
 {
-    let opened = opened_in(alloc, files, policy, script)?;
     let (ready, _) = opened.into_parts();
-    let line = answer_in(alloc, files, &ready, transcript)?;
-    end_or_refusal(CommandEnd::with_text(alloc, line))
+    match audited(alloc, &ready, text.bytes())? {
+        AuditAnswer::Yes { entries, results } => {
+            let line = yes_line(alloc, entries, results)?;
+            Ok(CommandEnd::with_text(alloc, line)?)
+        }
+        AuditAnswer::No(refuted) => Err(refuted_at(alloc, refuted, text)),
+    }
 }

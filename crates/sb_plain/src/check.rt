@@ -1,16 +1,17 @@
-// The command `check`: policies are read, and printed with the listings of their programs.
-ghost use Rattle.std.specs.Prelude.{◌≡◌, [], ◌∷◌, IfOk, Some};
+// The command `check`: policies are printed with the listings of their programs.
+ghost use Rattle.std.specs.Prelude.{◌≡◌, IfErr, IfOk};
 ghost use Rattle.sb_outside.specs.Outside.{joined};
-ghost use Rattle.sb_plain.specs.Check.{check_end, checked, listings, printed_end};
-ghost use Rattle.sb_plain.specs.Coming.{IsEndCaused, IsFound, KeepsFiles, reported};
+ghost use Rattle.sb_plain.specs.Check.{check_text, checked, listings};
+ghost use Rattle.sb_plain.specs.Readings.{GivesEnd, IsOfText};
 
-use crate::ends::{CommandEnd, Lines, two_texts};
-use crate::reading::noted_policies_in;
-use crate::refusals::{Refused, end_or_refusal};
-use crate::shown::Shown;
+use crate::ends::{CommandEnd, Ending, Lines, two_texts};
+use crate::file_texts::FileText;
+use crate::reading::noted_policies_of;
+use crate::refusals::Refused;
 use sb_base::{Items, NoMemory};
 use sb_compile::put_listing;
-use sb_outside::{Bytes, Files};
+use sb_message::EndStatus;
+use sb_outside::Bytes;
 use sb_rule::WellMadePolicies;
 use sb_ruletext::print_policies;
 use std::alloc::Global;
@@ -39,32 +40,16 @@ fn check_texts(alloc: Global, policies: &WellMadePolicies) -> Result<Items<Bytes
     two_texts(alloc, printed, listed)
 }
 
-// The end that prints policies, of this text.
-fn end_of_check(
-    alloc: Global,
-    text: Shown,
-    policies: &WellMadePolicies,
-) -> Result<CommandEnd, NoMemory>
-    ensures { IfOk result (λ end. end ≡ reported (printed_end (Some text) policies.now.list)) }
+/// The command `check`: the policies of a text are printed, they as a text and then the listings of their programs, and the notes of the text are told.
+pub fn check_policy(alloc: Global, text: FileText) -> Result<CommandEnd, Refused>
+    ensures given { GivesEnd (check_text text) result }
+    ensures refused { IfErr result (λ refusal. IsOfText refusal.why) }
 {
-    let texts = check_texts(alloc, policies)?;
+    let (text, policies) = noted_policies_of(alloc, text)?;
+    let texts = check_texts(alloc, &policies)?;
     Ok(CommandEnd {
-        lines: Ok(Lines::Texts(texts)),
+        ending: Ending::Text(Lines::Texts(texts), EndStatus::Done),
         report: None,
-        noted: Some(text),
+        notes: Some(text),
     })
-}
-
-/// Reads the policies of a file, and prints them: they as a text, and then the listings of their programs. The notes of the file's text are told.
-pub fn check_policy<F: Files>(
-    alloc: Global,
-    files: &mut F,
-    policy: &str,
-) -> Result<CommandEnd, Refused>
-    ensures files { KeepsFiles IsEndCaused F.held F.faults files.old files.new result }
-    ensures found { IsFound check_end (policy.now ∷ []) (F.held files.old) result }
-{
-    let noted = noted_policies_in(alloc, files, policy)?;
-    let (text, policies) = noted;
-    end_or_refusal(end_of_check(alloc, text, &policies))
 }

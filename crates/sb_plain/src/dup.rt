@@ -1,61 +1,79 @@
-// The command `dup`: policies, a script and moves are read, the script is run, and then handles are passed between its targets.
-ghost use Rattle.std.specs.Prelude.{◌≡◌, ◌<◌, ◌+◌, ◌^◌, ◌∷◌, [], length, true, IfOk};
+// The command `dup`: a script is run under policies, and then handles are passed between its targets.
+ghost use Rattle.std.specs.Prelude.{◌≡◌, ◌<◌, ◌^◌, length, true, IfErr, IfOk};
 ghost use Rattle.std.specs.List.{list_all};
 ghost use Rattle.sb_book.specs.Histories.{setting_of};
 ghost use Rattle.sb_book.specs.Reports.{result_count};
 ghost use Rattle.sb_dup.specs.Lines.{is_between};
 ghost use Rattle.sb_dup.specs.MoveLines.{lines_of_moves};
-ghost use Rattle.sb_dup.specs.MoveTexts.{reading};
 ghost use Rattle.sb_outside.specs.Outside.{joined};
-ghost use Rattle.sb_plain.specs.Coming.{GivesBy, IsCausedBy, IsEndCaused, IsFound, IsRead, KeepsFiles, reported};
 ghost use Rattle.sb_plain.specs.Contents.{no_schedule};
-ghost use Rattle.sb_plain.specs.Dup.{answers_after, dup_end, moved_text, moves_by, moves_end, moves_in, reported_moves};
+ghost use Rattle.sb_plain.specs.Dup.{answers_after, moved_text, moves_end, moves_of, reported_moves};
+ghost use Rattle.sb_plain.specs.Readings.{Gives, IsOfText, reported};
 ghost use Rattle.sb_plain.specs.Replay.{whole_run};
 
-use crate::ends::{CommandEnd, Lines, two_texts};
-use crate::outcomes::Status;
-use crate::reading::{no_schedule, opened_in, text_in};
-use crate::refusals::{Refused, end_or_refusal};
+use crate::driver::{LaterFile, MAX_BYTES};
+use crate::ends::{CommandEnd, two_texts};
+use crate::file_texts::FileText;
+use crate::reading::no_schedule;
+use crate::refusals::Refused;
 use crate::replay::transcript_text;
 use sb_base::{Items, NoMemory};
 use sb_book::{OpenedScript, Report, RunStart};
 use sb_compile::Programs;
 use sb_core::{Ran, run};
-use sb_dup::{Answered, Moves, MovesRefused, Passing, put_moves, read_moves};
-use sb_outside::{Bytes, Files};
+use sb_dup::{Answered, Moves, Passing, put_moves, read_moves};
+use sb_outside::Bytes;
 use sb_statements::{Script, SoundScript};
 use std::alloc::Global;
 
 // The moves of a text, between targets of this script.
-fn moves_by(alloc: Global, script: &SoundScript, text: Vec<u8>) -> Result<Moves, Refused>
-    requires { length text.items + 1 < 2 ^ 32 }
-    ensures given { GivesBy (λ m. m) (moves_by text.items (reading (length script.now.targets) text.items)) result }
+fn moves_of(alloc: Global, script: &SoundScript, text: FileText) -> Result<Moves, Refused>
+    ensures given { Gives (λ m. m) (moves_of script.now text) result }
+    ensures refused { IfErr result (λ refusal. IsOfText refusal.why) }
     ensures between { IfOk result (λ moves. list_all (is_between (length script.now.targets)) moves ≡ true) }
 {
-    match read_moves(alloc, &text, script) {
+    match read_moves(alloc, text.bytes(), script) {
         Ok(moves) => Ok(moves),
-        Err(MovesRefused::Fault(fault)) => Err(Refused::at_line(
-            Status::MovesRefused(fault),
-            fault.line,
-            text,
-        )),
-        Err(MovesRefused::NoMemory) => Err(Refused::new(Status::NoMemory)),
+        Err(refused) => Err(text.refused(refused)),
     }
 }
 
-// The moves of the third file, between targets of this script.
-fn moves_in<F: Files>(
-    alloc: Global,
-    files: &mut F,
-    script: &SoundScript,
-    name: &str,
-) -> Result<Moves, Refused>
-    ensures files { KeepsFiles IsCausedBy F.held F.faults files.old files.new result }
-    ensures read { IsRead (λ m. m) 3 (moves_in script.now) (F.held files.old) name.now result }
-    ensures between { IfOk result (λ moves. list_all (is_between (length script.now.targets)) moves ≡ true) }
-{
-    let text = text_in(alloc, files, name, 3)?;
-    moves_by(alloc, script, text)
+/// The file after the script has moves between its targets.
+pub struct MovesFile;
+
+impl LaterFile for MovesFile {
+    type Value = Moves;
+
+    ghost use Rattle.std.specs.Prelude.{◌≡◌, length, true};
+    ghost use Rattle.std.specs.List.{list_all};
+    ghost use Rattle.sb_dup.specs.Lines.{is_between};
+    ghost use Rattle.sb_plain.specs.Contents.{most_bytes};
+    ghost use Rattle.sb_plain.specs.Dup.{moves_of};
+    ghost use Rattle.sb_plain.specs.ScriptEnds.{is_named, needed};
+
+    ghost most = { λ _. most_bytes };
+
+    ghost reads = { λ _ script. needed (moves_of script) };
+
+    ghost named = { λ _. is_named };
+
+    ghost suits = { λ _ script moves. list_all (is_between (length script.targets)) moves ≡ true };
+
+    fn most_bytes(&self) -> u64 {
+        MAX_BYTES
+    }
+
+    fn read(
+        &self,
+        alloc: Global,
+        script: &SoundScript,
+        text: Option<FileText>,
+    ) -> Result<Moves, Refused> {
+        match text {
+            Some(text) => moves_of(alloc, script, text),
+            None => Err(Refused::missing(3)),
+        }
+    }
 }
 
 // How moves are answered after a run, one after another, from the namespace and the handles that it reports.
@@ -112,15 +130,11 @@ fn end_of_moves(
     ensures { IfOk result (λ end. end ≡ reported_moves judge.now.policies script.now moves.now ran) }
 {
     let Ran { report, unfinished } = ran;
-    let lines = match unfinished {
-        None => Ok(Lines::Texts(texts_after(alloc, judge, script, moves, &report)?)),
-        Some((target, thread)) => Err(Status::Unfinished { target, thread }),
-    };
-    Ok(CommandEnd {
-        lines,
-        report: Some(report),
-        noted: None,
-    })
+    if let Some((target, thread)) = unfinished {
+        return Ok(CommandEnd::unfinished(target, thread, report));
+    }
+    let texts = texts_after(alloc, judge, script, moves, &report)?;
+    Ok(CommandEnd::with_report(texts, report))
 }
 
 // The run of a script without a schedule, in which calls are judged by these programs.
@@ -136,8 +150,16 @@ fn run_unscheduled(
     run(alloc, judge, start, &no_schedule(alloc))
 }
 
-// Runs a script that was read, and makes the moves.
-fn move_by(alloc: Global, opened: OpenedScript, moves: &Moves) -> Result<CommandEnd, NoMemory>
+/// The command `dup`: a script that was read is run without a schedule, and then handles are passed between its targets as the moves say. The transcript and the
+/// lines of the moves are put.
+///
+/// # Errors
+/// `NoMemory` if there was none for the run, the moves or the lines.
+pub fn dup_script(
+    alloc: Global,
+    opened: OpenedScript,
+    moves: &Moves,
+) -> Result<CommandEnd, NoMemory>
     requires between { list_all (is_between (length opened.script.targets)) moves.now ≡ true }
     ensures { IfOk result (λ end. end ≡ reported (moves_end opened.policies opened.script moves.now)) }
 {
@@ -145,21 +167,4 @@ fn move_by(alloc: Global, opened: OpenedScript, moves: &Moves) -> Result<Command
     let judge = Programs::new(alloc, ready.policies(), ready.script())?;
     let ran = run_unscheduled(alloc, &judge, RunStart::of(&ready, kernel))?;
     end_of_moves(alloc, &judge, ready.script(), moves, ran)
-}
-
-/// Reads policies, a script and moves, runs the script without a schedule, and then passes handles between its targets as the moves
-/// say. The file of the moves is read once the script was read and has no fault.
-pub fn dup_script<F: Files>(
-    alloc: Global,
-    files: &mut F,
-    policy: &str,
-    script: &str,
-    moves: &str,
-) -> Result<CommandEnd, Refused>
-    ensures files { KeepsFiles IsEndCaused F.held F.faults files.old files.new result }
-    ensures found { IsFound dup_end (policy.now ∷ script.now ∷ moves.now ∷ []) (F.held files.old) result }
-{
-    let opened = opened_in(alloc, files, policy, script)?;
-    let moves = moves_in(alloc, files, opened.script(), moves)?;
-    end_or_refusal(move_by(alloc, opened, &moves))
 }

@@ -1,64 +1,46 @@
-// How a command ends.
+// How a command ended.
+ghost use Rattle.std.specs.Prelude.{◌≡◌, [], None};
 
-use crate::shown::Shown;
-use sb_audit::Refuted;
 use sb_book::Report;
-use sb_commands::UsageFault;
-use sb_dup::MoveFault;
-use sb_link::LinkFault;
-use sb_outside::{ReadCause, SinkFault};
-use sb_ruletext::PolicyFault;
-use sb_scripttext::{ScheduleFault, ScriptFault};
+use sb_commands::FileNames;
+use sb_message::{Shown, Status};
 
-/// How a command ended. Files are numbered by their place in the command, from 1.
-#[derive(Clone, Copy)]
-pub enum Status {
-    /// All was put.
-    Done,
-    /// The run leaves a thread unfinished: the first such one is this thread of this target, both numbered from 0.
-    Unfinished { target: u32, thread: u32 },
-    /// The arguments are no command, and this is their first fault.
-    Usage(UsageFault),
-    /// The text of the policies has this fault, and none before it.
-    PolicyRefused(PolicyFault),
-    /// The first fault of the text of the script.
-    ScriptRefused(ScriptFault),
-    /// The first fault of the text of the schedule.
-    ScheduleRefused(ScheduleFault),
-    /// The first fault of the text of the links.
-    LinksRefused(LinkFault),
-    /// The first fault of the text of the moves.
-    MovesRefused(MoveFault),
-    /// The transcript is refuted at this line by this clause, with what is due there.
-    AuditNo(Refuted),
-    /// There is no such file.
-    Missing { which: u8 },
-    /// The file has more than 4,194,304 bytes, or is a transcript of more than 536,870,912.
-    TooLong { which: u8 },
-    /// The file was not read, for this cause.
-    ReadFault { which: u8, cause: ReadCause },
-    /// Something was not written, for this reason.
-    WriteFault(SinkFault),
-    /// There was no memory.
-    NoMemory,
-}
-
-/// The status, what of a text is shown with it, and the report of a run with Done, Unfinished and WriteFault.
-pub struct Outcome {
+/// The status of a command, with the names of its files, what of a text is shown with it, and the report of its run.
+pub struct Outcome<'a> {
     /// How the command ended.
     pub status: Status,
+    /// The names of its files; none if the arguments are no command, or were not read.
+    pub files: FileNames<'a>,
     /// The line of a refused text that has the fault, without its line end; or the policy text whose notes are told, if the command has an end.
     pub shown: Option<Shown>,
-    /// What its run gave.
+    /// What its run gave, if the command has an end.
     pub report: Option<Report>,
 }
 
-impl Drop for Outcome {
+impl<'a> Drop for Outcome<'a> {
     fn drop(self) {
         let Outcome {
             status: _,
+            files: _,
             shown: _,
             report: _,
         } = self;
+    }
+}
+
+impl<'a> Outcome<'a> {
+    /// The outcome of arguments of which no file was read: it shows nothing, and has no report.
+    pub fn bare(status: Status) -> Outcome<'a>
+        ensures status { result.status ≡ status }
+        ensures files { result.files ≡ [] }
+        ensures shown { result.shown ≡ None }
+        ensures report { result.report ≡ None }
+    {
+        Outcome {
+            status,
+            files: FileNames::none(),
+            shown: None,
+            report: None,
+        }
     }
 }

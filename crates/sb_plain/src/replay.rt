@@ -1,22 +1,17 @@
-// The command `replay`: policies, a script and its schedule are read, the script is run, and its transcript is put line by line.
-ghost use Rattle.std.specs.Prelude.{◌≡◌, ◌<◌, ◌^◌, ◌∷◌, true, IfOk};
+// The command `replay`: a script is run under policies by its schedule, and its transcript is put line by line.
+ghost use Rattle.std.specs.Prelude.{◌≡◌, ◌<◌, ◌^◌, true, IfOk};
 ghost use Rattle.std.specs.List.{list_all};
 ghost use Rattle.sb_book.specs.Reports.{result_count};
-ghost use Rattle.sb_commands.specs.Commands.{named};
 ghost use Rattle.sb_statements.specs.Actors.{is_step_there};
-ghost use Rattle.sb_plain.specs.Coming.{IsEndCaused, IsFound, KeepsFiles, reported, reported_run};
-ghost use Rattle.sb_plain.specs.Replay.{listed, replay_end, run_end, whole_run};
+ghost use Rattle.sb_plain.specs.Readings.{reported, reported_run};
+ghost use Rattle.sb_plain.specs.Replay.{run_end, whole_run};
 ghost use Rattle.sb_transcript.specs.Transcripts.{transcript};
 
-use crate::ends::{CommandEnd, Lines};
-use crate::outcomes::Status;
-use crate::reading::{opened_in, schedule_of};
-use crate::refusals::{Refused, end_or_refusal};
+use crate::ends::CommandEnd;
 use sb_base::NoMemory;
 use sb_book::{OpenedScript, Report, RunStart};
 use sb_compile::Programs;
 use sb_core::{Ran, run};
-use sb_outside::Files;
 use sb_statements::{Schedule, Script};
 use sb_transcript::transcript_lines;
 use std::alloc::Global;
@@ -30,15 +25,11 @@ pub fn end_of_run(alloc: Global, script: &Script, ran: Ran) -> Result<CommandEnd
     ensures { IfOk result (λ end. end ≡ reported_run script.now ran) }
 {
     let Ran { report, unfinished } = ran;
-    let lines = match unfinished {
-        None => Ok(Lines::Transcript(transcript_lines(alloc, script, &report)?)),
-        Some((target, thread)) => Err(Status::Unfinished { target, thread }),
-    };
-    Ok(CommandEnd {
-        lines,
-        report: Some(report),
-        noted: None,
-    })
+    if let Some((target, thread)) = unfinished {
+        return Ok(CommandEnd::unfinished(target, thread, report));
+    }
+    let lines = transcript_lines(alloc, script, &report)?;
+    Ok(CommandEnd::with_transcript(lines, report))
 }
 
 /// The transcript of a run as one text.
@@ -68,28 +59,19 @@ fn run_whole(alloc: Global, start: RunStart<'_>, schedule: &Schedule) -> Result<
     run(alloc, &judge, start, schedule)
 }
 
-// Runs a script that was read, by its schedule.
-fn run_by(alloc: Global, opened: OpenedScript, schedule: &Schedule) -> Result<CommandEnd, NoMemory>
+/// The command `replay`: a script that was read is run by a schedule of its actors, and its transcript is put line by line.
+///
+/// # Errors
+/// `NoMemory` if there was none for the run or its transcript.
+pub fn replay_script(
+    alloc: Global,
+    opened: OpenedScript,
+    schedule: &Schedule,
+) -> Result<CommandEnd, NoMemory>
     requires there { list_all (is_step_there opened.script.targets) schedule.now.steps ≡ true }
     ensures { IfOk result (λ end. end ≡ reported (run_end opened.policies opened.script schedule.now)) }
 {
     let (ready, kernel) = opened.into_parts();
     let ran = run_whole(alloc, RunStart::of(&ready, kernel), schedule)?;
     end_of_run(alloc, ready.script(), ran)
-}
-
-/// Reads policies, a script and the schedule if one is named, and runs the script by it.
-pub fn replay_script<F: Files>(
-    alloc: Global,
-    files: &mut F,
-    policy: &str,
-    script: &str,
-    schedule: Option<&str>,
-) -> Result<CommandEnd, Refused>
-    ensures files { KeepsFiles IsEndCaused F.held F.faults files.old files.new result }
-    ensures found { IsFound replay_end (policy.now ∷ script.now ∷ listed (named schedule.entry)) (F.held files.old) result }
-{
-    let opened = opened_in(alloc, files, policy, script)?;
-    let schedule = schedule_of(alloc, files, opened.script(), schedule)?;
-    end_or_refusal(run_by(alloc, opened, &schedule))
 }

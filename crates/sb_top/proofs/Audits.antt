@@ -1,7 +1,5 @@
 -- What `replay` and `run` write passes an audit, and is not too long for one.
 use Rattle.std.proofs.Common.{◌≡◌, ℕ, ◌≤◌, Bool, true, List, [], ◌∷◌, ◌++◌, length, Option, None, Some, refl, sym, subst, ap, inl, inr, ◌∙◌, arith}
-use Rattle.std.proofs.lemmas.Bool.Decides.{nat_tests}
-use Rattle.std.proofs.lemmas.Option.{none-some}
 use Rattle.std.specs.Prelude.{IfOk, IfSome, IsOkAnd, IsSome, IsSomeAnd, Result, Ok, Err, nat_le, if◌then◌else◌}
 use Rattle.sb_audit.specs.Audited.{audited}
 use Rattle.sb_audit.specs.declared.answers.AuditAnswer.TheVariants.{Yes}
@@ -22,49 +20,39 @@ use Rattle.sb_text.specs.Steps.{◌>>=◌}
 use Rattle.sb_transcript.specs.Lengths.{most_transcript_bytes}
 use Rattle.sb_transcript.specs.Printable.{IsPrintable}
 use Rattle.sb_transcript.specs.Transcripts.{transcript}
-use Rattle.sb_outside.specs.declared.sink.SinkFault.{SinkFault}
-use Rattle.sb_outside.specs.declared.files.ReadCause.{ReadCause}
-use Rattle.sb_plain.specs.Audit.{answer_by, answer_in, answer_to, audit_end, audited_end, yes_line}
-use Rattle.sb_plain.specs.Contents.{Content, Refusal, policies_in, refused, script_in}
+use Rattle.sb_message.specs.declared.statuses.Status.TheVariants.{Done}
+use Rattle.sb_plain.specs.Audit.{answered_end, audit_end, audited_end, end_by, yes_line}
+use Rattle.sb_plain.specs.Contents.{Content, Contents, FileContent, ShownRefusal, most_bytes, policies_in, schedule_if, script_in}
 use Rattle.sb_plain.specs.Effects.{Effect}
-use Rattle.sb_plain.specs.Endings.{IsDone, IsEndFor, IsEnding, IsMeant, IsUnwritten, IsWritten}
-use Rattle.sb_plain.specs.Ends.{AreContents, Contents, End, IsOrderOf, ScriptRun, report_of}
-use Rattle.sb_plain.specs.Outcomes.{file_of}
-use Rattle.sb_plain.specs.Replay.{ended_by, replay_end, run_text, schedule_of, whole_run}
-use Rattle.sb_plain.specs.ScriptEnds.{no_third}
+use Rattle.sb_plain.specs.Endings.{IsDone, IsEnding}
+use Rattle.sb_plain.specs.Ends.{AreContents, End, IsOrderOf, ScriptRun, report_of}
+use Rattle.sb_plain.specs.Replay.{ended_by, if_finished, replay_end, run_end, run_text, whole_run}
+use Rattle.sb_plain.specs.ScriptEnds.{later_text, needed, nothing, script_read}
 use Rattle.sb_plain.specs.Sound.{IsSound, IsSoundRun}
 use Rattle.sb_plain.specs.declared.outcomes.Outcome.{Outcome}
-use Rattle.sb_plain.specs.declared.outcomes.Status.{Status}
-use Rattle.sb_plain.specs.declared.outcomes.Status.TheVariants.{Done, NoMemory, ReadFault, TooLong, Unfinished, WriteFault}
+use Rattle.sb_plain.proofs.ReadFiles.{short_text}
 use Rattle.sb_plain.proofs.Readings.{bound, same_end}
-use Rattle.sb_plain.proofs.Suiting.{NamesFile, RefusesFor, counted}
+use Rattle.sb_plain.proofs.ScriptEnds.{read_parts, to_end}
 use Rattle.sb_top.specs.Audits.{AuditSaysYes, IsAudited, IsAuditedAs, OutcomesAreAudited, ReplaysAreAudited, ThreadedRunsAreAudited, writes_transcript}
-use Rattle.sb_top.specs.Run.{threads_end}
+use Rattle.sb_top.specs.Run.{ordered_end, threads_end}
 use Rattle.sb_top.specs.Sound.{ReportsAreSound}
 use Rattle.sb_top.specs.Top.{meaning_by}
-use Rattle.sb_top.proofs.AllCommands.{suited}
+use Rattle.sb_top.proofs.DoneEnds.{done_end, end_done}
 
 -- ---- the command `audit`
 
-abbrev limited : List ℕ → Bool → Result (List ℕ) Refusal
-limited text b = if b then Ok text else Err (refused (TooLong 3))
+-- what was read of a file as the text after the script
+abbrev some_text : Result FileContent ShownRefusal → Result (Option FileContent) ShownRefusal
+some_text r = r >>= λ text. Ok (Some text)
 
 -- a transcript that is not too long, and to which the answer is yes
-answered : (policies : List Policy) (script : Script) (text : List ℕ) (n m : ℕ) → length text ≤ most_transcript_bytes → audited policies script text ≡ Yes n m
-    → answer_in policies script (Some text) ≡ Ok (yes_line n m)
-answered policies script text n m short said =
-    ap (λ b. limited text b >>= answer_to policies script) (is_within (length text) short) ∙ ap (answer_by text) said
-  where
-    is_within : (n : ℕ) → n ≤ most_transcript_bytes → nat_le n most_transcript_bytes ≡ true
-    is_within n l = grind (arith, nat_tests)
-
 says_yes : (policy file : Content) (policies : List Policy) (script : Script) (text : List ℕ) (n m : ℕ) → policies_in policy ≡ Ok policies
-    → script_in policies file ≡ Ok script → answer_in policies script (Some text) ≡ Ok (yes_line n m)
-    → audit_end (policy ∷ file ∷ Some text ∷ []) ≡ Ok (audited_end policies script (yes_line n m))
-says_yes policy file policies script text n m p s a =
-    ap (λ r. r >>= λ ps. script_in ps file >>= λ read. answer_in ps read (Some text) >>= λ line. Ok (audited_end ps read line)) p
-    ∙ (ap (λ r. r >>= λ read. answer_in policies read (Some text) >>= λ line. Ok (audited_end policies read line)) s
-    ∙ ap (λ r. r >>= λ line. Ok (audited_end policies script line)) a)
+    → script_in policies file ≡ Ok script → length text ≤ most_transcript_bytes → audited policies script text ≡ Yes n m
+    → audit_end (policy ∷ file ∷ Some text ∷ []) ≡ Ok (answered_end (yes_line n m))
+says_yes policy file policies script text n m p s short said =
+    let third : FileContent = record { which = 3; bytes = text } in
+    let read : later_text most_transcript_bytes (Some text ∷ []) ≡ Ok (Some third) = ap some_text (short_text most_transcript_bytes 3 text short) in
+    to_end most_transcript_bytes (λ read. needed Ok) audited_end policy file (Some text ∷ []) policies script (Some third) third p s read refl ∙ ap (end_by third) said
 
 -- ---- a run
 
@@ -80,11 +68,11 @@ run_audited policy file files policies script r p s sound finished printable =
     record {
       short = short;
       answer = said;
-      command = says_yes policy file policies script (transcript script r.report) n m p s (answered policies script (transcript script r.report) n m short said);
+      command = says_yes policy file policies script (transcript script r.report) n m p s short said;
     }
 
 -- a text that is written is the transcript, and no thread is unfinished
-told : (script : Script) (r : Ran) (text : List ℕ) (o : Option (ℕ × ℕ)) → run_text script r o ≡ Ok text → (o ≡ None) × (transcript script r.report ≡ text)
+told : (script : Script) (r : Ran) (text : List ℕ) (o : Option (ℕ × ℕ)) → run_text script r o ≡ Some text → (o ≡ None) × (transcript script r.report ≡ text)
 told script r text None e = (refl, cc)
 told script r text (Some thread) e = cc
 
@@ -93,7 +81,7 @@ same_report a b e = cc
 
 -- so it is of a text that is written
 end_audited : (policy file : Content) (files : Contents) (policies : List Policy) (script : Script) (r : Ran) → policies_in policy ≡ Ok policies → script_in policies file ≡ Ok script
-    → IsSoundRun policies script r → IsPrintable r.report → (text : List ℕ) → run_text script r r.unfinished ≡ Ok text
+    → IsSoundRun policies script r → IsPrintable r.report → (text : List ℕ) → run_text script r r.unfinished ≡ Some text
     → IsAuditedAs (policy ∷ file ∷ files) text (record { policies = policies; script = script; ran = r })
 end_audited policy file files policies script r p s sound printable text t =
     let w = told script r text r.unfinished t in
@@ -117,40 +105,38 @@ of_replay : (contents : Contents) (end : End) → replay_end contents ≡ Ok end
 of_replay [] end e = cc
 of_replay (p ∷ []) end e = cc
 of_replay (p ∷ s ∷ files) end e =
-    let ps = bound (policies_in p) _ end e in
-    let read = bound (script_in ps.0 s) _ end ps.2 in
-    let schedule = bound (schedule_of read.0 files) _ end read.2 in
+    let r = bound (script_read most_bytes schedule_if (p ∷ s ∷ files)) (λ x. Ok (run_end x.0.policies x.0.script x.1)) end e in
+    let parts = read_parts most_bytes schedule_if p s files r.0 r.1 in
     record {
       policy = p;
       file = s;
       files = files;
-      policies = ps.0;
-      script = read.0;
-      ran = whole_run ps.0 read.0 schedule.0;
+      policies = r.0.0.policies;
+      script = r.0.0.script;
+      ran = whole_run r.0.0.policies r.0.0.script r.0.1;
       are = refl;
-      policies_read = ps.1;
-      script_read = read.1;
-      is = same_end _ end schedule.2;
+      policies_read = parts.policies;
+      script_read = parts.script;
+      is = same_end (run_end r.0.0.policies r.0.0.script r.0.1) end r.2;
     }
 
 of_run : (order : Schedule) (contents : Contents) (end : End) → threads_end order contents ≡ Ok end → IsRunEnd contents end
 of_run order [] end e = cc
 of_run order (p ∷ []) end e = cc
 of_run order (p ∷ s ∷ files) end e =
-    let ps = bound (policies_in p) _ end e in
-    let read = bound (script_in ps.0 s) _ end ps.2 in
-    let none = bound (no_third files) _ end read.2 in
+    let r = bound (script_read most_bytes (λ script. nothing) (p ∷ s ∷ files)) (λ x. ordered_end order x.0.policies x.0.script x.1) end e in
+    let parts = read_parts most_bytes (λ script. nothing) p s files r.0 r.1 in
     record {
       policy = p;
       file = s;
       files = files;
-      policies = ps.0;
-      script = read.0;
-      ran = whole_run ps.0 read.0 order;
+      policies = r.0.0.policies;
+      script = r.0.0.script;
+      ran = whole_run r.0.0.policies r.0.0.script order;
       are = refl;
-      policies_read = ps.1;
-      script_read = read.1;
-      is = same_end _ end none.2;
+      policies_read = parts.policies;
+      script_read = parts.script;
+      is = same_end (run_end r.0.0.policies r.0.0.script order) end r.2;
     }
 
 module _ (contents : Contents) (end : End) (x : IsRunEnd contents end) (sound : IfSome end.run IsSound) where
@@ -160,17 +146,17 @@ module _ (contents : Contents) (end : End) (x : IsRunEnd contents end) (sound : 
   its_report : report_of end ≡ Some x.ran.report
   its_report = subst (λ (y : End). report_of y ≡ Some x.ran.report) x.is refl
 
-  its_text : (r : Result (List ℕ) Status) → end.text ≡ r → run_text x.script x.ran x.ran.unfinished ≡ r
+  its_text : (r : Option (List ℕ)) → end.text ≡ r → run_text x.script x.ran x.ran.unfinished ≡ r
   its_text r t = ap (λ (y : End). y.text) x.is ∙ t
 
-  its_audit : IsPrintable x.ran.report → (text : List ℕ) → end.text ≡ Ok text → IsAuditedAs contents text its_run
+  its_audit : IsPrintable x.ran.report → (text : List ℕ) → end.text ≡ Some text → IsAuditedAs contents text its_run
   its_audit printable text t =
       subst (λ cs. IsAuditedAs cs text its_run) (sym x.are)
       (end_audited x.policy x.file x.files x.policies x.script x.ran x.policies_read x.script_read (subst (λ (y : End). IfSome y.run IsSound) (sym x.is) sound) printable text
-      (its_text (Ok text) t))
+      (its_text (Some text) t))
 
   -- if it has this report
-  audited_as : (report : Report) → IsPrintable report → (text : List ℕ) → end.text ≡ Ok text → report_of end ≡ Some report → IsSomeAnd end.run (IsAuditedAs contents text)
+  audited_as : (report : Report) → IsPrintable report → (text : List ℕ) → end.text ≡ Some text → report_of end ≡ Some report → IsSomeAnd end.run (IsAuditedAs contents text)
   audited_as report printable text t is =
       let same = same_report x.ran.report report (sym its_report ∙ is) in
       subst (λ (y : End). IsSomeAnd y.run (IsAuditedAs contents text)) x.is (its_audit (subst IsPrintable (sym same) printable) text t)
@@ -191,69 +177,21 @@ threaded_runs_are_audited law report printable order contents end text e ordered
 
 -- ---- outcomes
 
--- a refusal names a file
-not_done : (files : ℕ) (s : Status) → NamesFile files s → s ≡ Done → ⊥
-not_done files s h e = none-some h.0 (sym (ap file_of e) ∙ h.1)
-
-done_read : (n : ℕ) (cause : ReadCause) → Done ≡ ReadFault n cause → ⊥
-done_read n cause e = cc
-
-done_written : (fault : SinkFault) → Done ≡ WriteFault fault → ⊥
-done_written fault e = cc
-
-done_starved : Done ≡ NoMemory → ⊥
-done_starved e = cc
-
-done_unfinished : (thread : ℕ × ℕ) → Unfinished thread.0 thread.1 ≡ Done → ⊥
-done_unfinished thread e = cc
-
--- a status of an end of a run that writes nothing
-its_status : (thread : ℕ × ℕ) (s : Status) → ◌≡◌ {A = Result (List ℕ) Status} (Err (Unfinished thread.0 thread.1)) (Err s) → Unfinished thread.0 thread.1 ≡ s
-its_status thread s e = cc
-
 module _ {G S : Type 0} (e : Effect G S) (o : Outcome) (done : o.status ≡ Done) where
-  not_read : (n : ℕ) (cause : ReadCause) → o.status ≡ ReadFault n cause → ⊥
-  not_read n cause is = done_read n cause (sym done ∙ is)
-
-  not_written : (fault : SinkFault) → o.status ≡ WriteFault fault → ⊥
-  not_written fault is = done_written fault (sym done ∙ is)
-
-  not_starved : o.status ≡ NoMemory → ⊥
-  not_starved is = done_starved (sym done ∙ is)
-
-  -- a command that is done came to an end of its meaning
-  came : (meaning : Contents → Result End Refusal) (contents : Contents) (files : ℕ) → RefusesFor files (meaning contents) → IsEndFor meaning contents e o
-      → (end : End) × (meaning contents ≡ Ok end) × IsDone end e o
-  came meaning contents files refuses (inl m) = by (meaning contents) refuses m
-    where
-      by : (r : Result End Refusal) → RefusesFor files r → IsMeant r e o → (end : End) × (r ≡ Ok end) × IsDone end e o
-      by (Ok end) f m = (end, refl, m)
-      by (Err refusal) f m = absurd (not_done files refusal.status f (sym m.status ∙ done))
-  came meaning contents files refuses (inr (inl u)) = absurd (not_read u.file u.cause u.is.status)
-  came meaning contents files refuses (inr (inr (inl u))) = by (meaning contents) u
-    where
-      by : (r : Result End Refusal) → IsOkAnd r (λ x. IsUnwritten x e o) → (end : End) × (r ≡ Ok end) × IsDone end e o
-      by (Ok end) u = absurd (not_written u.fault u.status)
-      by (Err refusal) u = absurd u
-  came meaning contents files refuses (inr (inr (inr s))) = absurd (not_starved s.status)
-
-  -- what it wrote is the transcript
-  text_of : (end : End) (r : Result (List ℕ) Status) → end.text ≡ r → IsWritten r e o → ((s : Status) → r ≡ Err s → s ≡ Done → ⊥)
-      → (text : List ℕ) × (end.text ≡ Ok text) × GrowsBy e.written (e.pending ++ text) e.written'
-  text_of end (Ok text) is w never = (text, is, w.1)
-  text_of end (Err s) is w never = absurd (never s refl (sym w.0 ∙ done))
-
-  unfinished_only : (script : Script) (r : Ran) (left : Option (ℕ × ℕ)) (s : Status) → run_text script r left ≡ Err s → s ≡ Done → ⊥
-  unfinished_only script r None s h is = cc
-  unfinished_only script r (Some thread) s h is = done_unfinished thread (its_status thread s h ∙ is)
+  -- what a command wrote that is done is the transcript
+  text_of : (contents : Contents) (end : End) (x : IsRunEnd contents end) → IsDone end e o
+      → (text : List ℕ) × (end.text ≡ Some text) × GrowsBy e.written (e.pending ++ text) e.written'
+  text_of contents end x d =
+      let its : IsDone (ended_by x.policies x.script x.ran) e o = subst (λ y. IsDone y e o) (sym x.is) d in
+      let text = transcript x.script x.ran.report in
+      let wrote = end_done e o text x.ran.unfinished its.status its.written done in
+      (text, sym (ap (λ (y : End). y.text) x.is) ∙ ap (λ left. if_finished text left) wrote.0, wrote.1)
 
   outcome_audited : (names : List (List ℕ)) (contents : Contents) (end : End) (x : IsRunEnd contents end) → IfSome end.run IsSound → AreContents e.held names contents
       → IsDone end e o → IfSome o.report IsPrintable → IsAudited names e o
   outcome_audited names contents end x sound held d printable =
       let told_report : o.report ≡ Some x.ran.report = d.report ∙ its_report contents end x sound in
-      let never : (s : Status) → end.text ≡ Err s → s ≡ Done → ⊥ =
-      λ s t. unfinished_only x.script x.ran x.ran.unfinished s (its_text contents end x sound (Err s) t) in
-      let wrote = text_of end end.text refl d.written never in
+      let wrote = text_of contents end x d in
       let audit = its_audit contents end x sound (subst (λ z. IfSome z IsPrintable) told_report printable) wrote.0 wrote.1 in
       record {
         contents = contents;
@@ -269,8 +207,7 @@ module _ (law : ReportsAreSound) {G S : Type 0} (e : Effect G S) (o : Outcome) (
       → IsAudited (files_of (record { work = work; values = values })) e o
   by_work (Plain Replay) values is h =
       let names = files_of (replay_of values) in
-      let size = counted e.held names h.contents h.held in
-      let end = came e o done replay_end h.contents (length names) ((suited (Plain Replay) values).refuses h.contents size) h.ends in
+      let end = done_end e o replay_end h.contents h.ends done in
       outcome_audited e o done names h.contents end.0 (of_replay h.contents end.0 end.1) (law (replay_of values) h.contents end.0 end.1) h.held end.2 printable
   by_work (Plain Check) values is h = absurd (cc)
   by_work (Plain Linked) values is h = absurd (cc)
@@ -279,8 +216,7 @@ module _ (law : ReportsAreSound) {G S : Type 0} (e : Effect G S) (o : Outcome) (
   by_work (Plain Audit) values is h = absurd (cc)
   by_work (Threaded Run) values is h =
       let names = files_of (run_of values) in
-      let size = counted e.held names h.contents h.held in
-      let end = came e o done (threads_end h.order) h.contents (length names) ((suited (Threaded Run) values h.order).refuses h.contents size) h.ends in
+      let end = done_end e o (threads_end h.order) h.contents h.ends done in
       let x = of_run h.order h.contents end.0 end.1 in
       let told_report : o.report ≡ Some x.ran.report = end.2.report ∙ subst (λ (y : End). report_of y ≡ Some x.ran.report) x.is refl in
       let ordered : IsOrderOf h.order end.0 = subst (λ r. IfOk r (IsOrderOf h.order)) end.1 (h.ordered (subst (λ z. IsSome z) (sym told_report) refl)) in

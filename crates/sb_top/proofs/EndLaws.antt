@@ -4,16 +4,18 @@ use Rattle.std.specs.Prelude.{IfOk, IfSome, IsOkAnd, IsSome, Result, Ok, Err, �
 use Rattle.std.proofs.lemmas.Option.{none-some}
 use Rattle.sb_outside.specs.Outside.{Held, Rose}
 use Rattle.sb_outside.specs.declared.files.ReadCause.{ReadCause}
-use Rattle.sb_plain.specs.Contents.{Refusal, refused}
+use Rattle.sb_message.specs.declared.statuses.FileRefusal.TheVariants.{ReadFault}
+use Rattle.sb_message.specs.declared.statuses.Refusal.TheVariants.{File, NoMemory}
+use Rattle.sb_message.specs.declared.statuses.Status.{Status}
+use Rattle.sb_message.specs.declared.statuses.Status.TheVariants.{Refused, WriteFault}
+use Rattle.sb_plain.specs.Contents.{Contents, ShownRefusal, refused}
 use Rattle.sb_plain.specs.Effects.{Effect}
-use Rattle.sb_plain.specs.Endings.{IsCaused, IsEndFor, IsMeant, IsRefused, IsUnwritten}
-use Rattle.sb_plain.specs.Ends.{AreContents, Contents, End, IsOrder, IsOrderOf, OnThreads, Plain, ScriptRun}
+use Rattle.sb_plain.specs.Endings.{IsEndFor, IsMeant, IsOutcomeCaused, IsRefused, IsUnwritten}
+use Rattle.sb_plain.specs.Ends.{AreContents, End, IsOrder, IsOrderOf, OnThreads, Plain, ScriptRun}
 use Rattle.sb_statements.specs.declared.schedules.Schedule.{Schedule}
 use Rattle.sb_top.specs.Laws.{IsMeantBy, RefusalsAreMeant, WorkComesToItsEnd, contents_of}
 use Rattle.sb_plain.specs.Outcomes.{file_of}
 use Rattle.sb_plain.specs.declared.outcomes.Outcome.{Outcome}
-use Rattle.sb_plain.specs.declared.outcomes.Status.{Status}
-use Rattle.sb_plain.specs.declared.outcomes.Status.TheVariants.{NoMemory, ReadFault, WriteFault}
 
 -- ---- contents that are known
 
@@ -30,16 +32,16 @@ module _ (G S : Type 0) where
 
   -- ---- an end over contents of any kind
 
-  module _ (meaning : Contents → Result End Refusal) (contents : Contents) (e : Effect G S) (o : Outcome) where
-    unwritten : {P : Type 0} (r : Result End Refusal) → ((x : End) → IsUnwritten x e o → P) → IsOkAnd r (λ x. IsUnwritten x e o) → P
+  module _ (meaning : Contents → Result End ShownRefusal) (contents : Contents) (e : Effect G S) (o : Outcome) where
+    unwritten : {P : Type 0} (r : Result End ShownRefusal) → ((x : End) → IsUnwritten x e o → P) → IsOkAnd r (λ x. IsUnwritten x e o) → P
     unwritten (Ok x) f u = f x u
     unwritten (Err r) f u = absurd u
 
     abbrev IsCausedHere : Status → Type 0
-    IsCausedHere s = IsCaused e.held (Rose e.reads e.reads') s
+    IsCausedHere s = IsOutcomeCaused e.held (Rose e.reads e.reads') s
 
     -- if no count rose it is as it is meant, or there was no memory
-    comes : IsCaused e.held (Rose e.reads e.reads') o.status → (Rose e.reads e.reads' → ⊥) → (Rose e.puts e.puts' → ⊥) → IsEndFor meaning contents e o
+    comes : IsOutcomeCaused e.held (Rose e.reads e.reads') o.status → (Rose e.reads e.reads' → ⊥) → (Rose e.puts e.puts' → ⊥) → IsEndFor meaning contents e o
         → IsMeant (meaning contents) e o ⊎ IsRefused (refused NoMemory) e o
     comes caused quiet calm (inl m) = inl m
     comes caused quiet calm (inr (inl u)) = absurd (quiet (subst IsCausedHere u.is.status caused))
@@ -47,7 +49,7 @@ module _ (G S : Type 0) where
     comes caused quiet calm (inr (inr (inr s))) = inr s
 
     -- if its status names a file that was read it is as it is meant
-    refuses : (n : ℕ) → file_of o.status ≡ Some n → ((m : ℕ) (cause : ReadCause) → o.status ≢ ReadFault m cause) → IsEndFor meaning contents e o → IsMeant (meaning contents) e o
+    refuses : (n : ℕ) → file_of o.status ≡ Some n → ((m : ℕ) (cause : ReadCause) → o.status ≢ Refused (File m (ReadFault cause))) → IsEndFor meaning contents e o → IsMeant (meaning contents) e o
     refuses n at other = by
       where
         no_file : {P : Type 0} (s : Status) → o.status ≡ s → file_of s ≡ None → P
@@ -57,10 +59,10 @@ module _ (G S : Type 0) where
         by (inl m) = m
         by (inr (inl u)) = absurd (other u.file u.cause u.is.status)
         by (inr (inr (inl u))) = unwritten (meaning contents) (λ x k. no_file (WriteFault k.fault) k.status refl) u
-        by (inr (inr (inr s))) = no_file NoMemory s.status refl
+        by (inr (inr (inr s))) = no_file (Refused NoMemory) s.status refl
 
   -- the order of an end that is as it is meant is one of its run
-  in_order : (order : Schedule) (r : Result End Refusal) (e : Effect G S) (o : Outcome) → (IsSome o.report → IfOk r (IsOrderOf order)) → IsMeant r e o
+  in_order : (order : Schedule) (r : Result End ShownRefusal) (e : Effect G S) (o : Outcome) → (IsSome o.report → IfOk r (IsOrderOf order)) → IsMeant r e o
       → IfOk r (IsOrderOf order)
   in_order order (Ok end) e o ordered m = by end.run refl
     where

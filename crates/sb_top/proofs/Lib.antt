@@ -14,3 +14,6 @@ pub mod Running
 pub mod Clean
 pub mod Deciding
 pub mod Promising
+mod SentSchedules
+mod DoneEnds
+mod ThreadedNumbers

@@ -14,15 +14,19 @@ use Rattle.sb_rule.specs.declared.policies.Policy.{Policy}
 use Rattle.sb_statements.specs.declared.scripts.Script.{Script}
 use Rattle.sb_statements.specs.declared.statements.Statement.{Statement}
 use Rattle.sb_transcript.specs.Totals.{totals_line}
-use Rattle.sb_plain.specs.Coming.{IsFoundOnThreads, ReportedEnd}
+use Rattle.sb_message.specs.declared.statuses.EndStatus.TheVariants.{Done}
+use Rattle.sb_message.specs.declared.statuses.Refusal.TheVariants.{NoMemory}
+use Rattle.sb_plain.specs.Contents.{Contents, refused}
+use Rattle.sb_plain.specs.Readings.{IsFoundOnThreads, ReportedEnd, end_or_refusal}
 use Rattle.sb_top.specs.Make.{IsMadeEnd, IsMadeReport, made_line, made_end, made_policies, make_end, made_text, policies_or_none}
-use Rattle.sb_plain.specs.Ends.{Contents, End, IsOrderOf, OnThreads}
+use Rattle.sb_plain.specs.Ends.{End, IsOrderOf, OnThreads}
 use Rattle.sb_plain.specs.Replay.{whole_run}
 use Rattle.sb_plain.specs.Sound.{AreEndsSound, IsSound, RunsAreSound}
 use Rattle.sb_top.specs.Totals.{AllClean, TotalsAreOfVerdicts, are_calls, totals_by}
+use Rattle.sb_plain.proofs.Carrying.{starved}
 use Rattle.sb_plain.proofs.Readings.{same_end}
 use Rattle.sb_top.proofs.Sound.{some_run_fits}
-use Rattle.sb_plain.proofs.Suiting.{AreSuited, EndsPlainly, RefusesFor}
+use Rattle.sb_plain.proofs.Suiting.{AreSuited}
 use Rattle.sb_top.proofs.Verdicts.{both_true}
 
 -- the policies that were made are those of the text
@@ -97,31 +101,31 @@ made_lines law sound seed targets calls policies script (Err error) made same cl
 
 -- the two lines of a report that was made are those of its order of steps
 pub made_end_of : (seed targets calls : ℕ) (report : Report) (text : List ℕ) → text ≡ made_text seed targets calls → IsMadeReport seed targets calls report
-    → IsMadeEnd seed targets calls (record { text = Ok text; report = Some report; noted = None })
+    → IsMadeEnd seed targets calls (record { text = Some text; status = Done; report = Some report; notes = None })
 unfolding whole_run
 made_end_of seed targets calls report text same some = record {
   order = some.schedule;
   is_order = record { can = some.can; no_rounds = some.no_rounds; finished = some.finished };
-  is = λ i. record { text = Ok (same i); report = Some (some.is i); noted = None };
+  is = λ i. record { text = Some (same i); status = Done; report = Some (some.is i); notes = None };
 }
 
 -- the end of a run of the script that is made, as what the command comes to
-pub made_found : (seed targets calls : ℕ) (held : Option Held) (end : ReportedEnd) → IsMadeEnd seed targets calls end
+made_found : (seed targets calls : ℕ) (held : Option Held) (end : ReportedEnd) → IsMadeEnd seed targets calls end
     → IsFoundOnThreads (make_end seed targets calls) [] held (Ok end)
 made_found seed targets calls held end e = record { order = e.order; contents = []; are = tt; ordered = λ k. e.is_order; is = e.is }
+
+-- or there was no memory for it
+pub makes_found : {E : Type 0} (seed targets calls : ℕ) (held : Option Held) (names : List (List ℕ)) (made : Result ReportedEnd E) → names ≡ []
+    → IfOk made (IsMadeEnd seed targets calls) → IsFoundOnThreads (make_end seed targets calls) names held (end_or_refusal made)
+makes_found seed targets calls held names (Ok end) none e =
+    subst (λ n. IsFoundOnThreads (make_end seed targets calls) n held (Ok end)) (sym none) (made_found seed targets calls held end e)
+makes_found seed targets calls held names (Err error) none e = starved (OnThreads (make_end seed targets calls)) names held (refused NoMemory) refl
 
 -- ---- its statuses, and its runs
 
 pub make_suited : (seed targets calls : ℕ) → AreSuited 0 (OnThreads (make_end seed targets calls))
-make_suited seed targets calls order = record { refuses = refuses; plain = plain }
-  where
-    refuses : (contents : Contents) → length contents ≡ 0 → RefusesFor 0 (make_end seed targets calls order contents)
-    refuses [] e = tt
-    refuses (c ∷ cs) e = cc
-
-    plain : (contents : Contents) (end : End) → make_end seed targets calls order contents ≡ Ok end → EndsPlainly end
-    plain [] end e = subst EndsPlainly (same_end (made_end seed targets calls order) end e) (λ s k. cc)
-    plain (c ∷ cs) end e = cc
+make_suited seed targets calls order [] e = tt
+make_suited seed targets calls order (c ∷ cs) e = cc
 
 pub make_sound : RunsAreSound → (seed targets calls : ℕ) → AreEndsSound (OnThreads (make_end seed targets calls))
 make_sound law seed targets calls order [] end e is =

@@ -1,45 +1,81 @@
 -- What a command comes to, by its work and its values.
-use Rattle.std.proofs.Common.{◌≡◌, [], Option, refl, subst, sym}
-use Rattle.std.specs.Prelude.{Result}
+use Rattle.std.proofs.Common.{◌≡◌, ◌∙◌, List, [], ◌∷◌, map, Option, None, Some, ℕ, refl, subst, sym}
+use Rattle.std.specs.Borrow.{Bor}
+use Rattle.std.specs.Prelude.{IsSome, Result}
 use Rattle.sb_commands.specs.Commands.{Command, files_by, files_of, plain_files, threaded_files}
 use Rattle.sb_commands.specs.Forms.{form_with}
 use Rattle.sb_commands.specs.Usage.{Values}
 use Rattle.sb_commands.specs.declared.works.PlainWork.{PlainWork}
 use Rattle.sb_commands.specs.declared.works.PlainWork.TheVariants.{Audit, Check, Dup, Linked, Local, Replay}
 use Rattle.sb_commands.specs.declared.works.ThreadedWork.{ThreadedWork}
+use Rattle.sb_commands.specs.declared.works.ThreadedWork.TheVariants.{Make, Run}
 use Rattle.sb_commands.specs.declared.works.Work.{Work}
-use Rattle.sb_commands.specs.declared.works.Work.TheVariants.{Plain, Threaded}
+use Rattle.sb_commands.specs.declared.works.Work.TheVariants as work
 use Rattle.sb_outside.specs.Outside.{Held}
-use Rattle.sb_plain.specs.Coming.{IsFound, IsFoundBy, IsFoundOnThreads, ReportedEnd}
-use Rattle.sb_plain.specs.Contents.{Refusal}
-use Rattle.sb_top.specs.Top.{meaning_by, meaning_of, plain_meaning, threaded_meaning}
+use Rattle.sb_plain.specs.Contents.{FileContent, ShownRefusal}
+use Rattle.sb_plain.specs.Ends.{OnThreads, Plain}
+use Rattle.sb_plain.specs.Readings.{IsFoundBy, ReportedEnd}
+use Rattle.sb_plain.specs.ScriptEnds.{IsWithScript, may_be_named}
+use Rattle.sb_top.specs.Top.{HasFiles, HasThreadedFiles, meaning_by, meaning_of, plain_meaning, threaded_meaning}
 
--- each command that runs without threads has a file
-pub has_files : (work : PlainWork) (values : Values) → plain_files work values ≡ [] → ⊥
-has_files Check values e = cc
-has_files Replay values e = cc
-has_files Linked values e = cc
-has_files Dup values e = cc
-has_files Local values e = cc
-has_files Audit values e = cc
+-- ---- a command has as many files as it reads
 
-module _ (command : Command) (values : Values) (same : values ≡ command.values) where
-  -- what holds of work and values that are those of a command
-  of_command : (P : Work → Values → Type 0) (work : Work) → command.work ≡ work → P work values → P command.work command.values
-  of_command P work is h = subst (λ w. P w command.values) (sym is) (subst (λ v. P work v) same h)
+with_last : (first second : List ℕ) (last : Option (List ℕ)) → IsWithScript may_be_named (files_by (form_with (work.Plain Replay)) (record { first = first; second = second; third = []; last = last; first_option = None; second_option = None }))
+with_last first second None = tt
+with_last first second (Some name) = λ text. tt
 
-  -- its files
-  pub plain_same : (work : PlainWork) → command.work ≡ Plain work → plain_files work values ≡ files_of command
-  plain_same work is = of_command (λ w v. plain_files work values ≡ files_by (form_with w) v) (Plain work) is refl
+pub plain_fits : (plain : PlainWork) (values : Values) → HasFiles plain (plain_files plain values)
+plain_fits Check values = tt
+plain_fits Replay values = with_last values.first values.second values.last
+plain_fits Linked values = λ text. refl
+plain_fits Dup values = λ text. refl
+plain_fits Local values = with_last values.first values.second values.last
+plain_fits Audit values = λ text. refl
 
-  pub threaded_same : (work : ThreadedWork) → command.work ≡ Threaded work → threaded_files work values ≡ files_of command
-  threaded_same work is = of_command (λ w v. threaded_files work values ≡ files_by (form_with w) v) (Threaded work) is refl
+pub threaded_fits : (threaded : ThreadedWork) (values : Values) → HasThreadedFiles threaded (threaded_files threaded values)
+threaded_fits Run values = refl
+threaded_fits Make values = refl
 
-  -- and what it comes to
-  pub plain_found : (work : PlainWork) (held : Option Held) (found : Result ReportedEnd Refusal) → command.work ≡ Plain work
-      → IsFound (plain_meaning work) (plain_files work values) held found → IsFoundBy (meaning_of command) (files_of command) held found
-  plain_found work held found is h = of_command (λ w v. IsFoundBy (meaning_by w v) (files_by (form_with w) v) held found) (Plain work) is h
+-- none that runs without threads has no files
+pub never_none : (plain : PlainWork) (names : List (List ℕ)) → HasFiles plain names → names ≡ [] → ⊥
+never_none Check names h e = subst (λ (n : List (List ℕ)). HasFiles Check n) e h
+never_none Replay names h e = subst (λ (n : List (List ℕ)). HasFiles Replay n) e h
+never_none Linked names h e = subst (λ (n : List (List ℕ)). HasFiles Linked n) e h
+never_none Dup names h e = subst (λ (n : List (List ℕ)). HasFiles Dup n) e h
+never_none Local names h e = subst (λ (n : List (List ℕ)). HasFiles Local n) e h
+never_none Audit names h e = subst (λ (n : List (List ℕ)). HasFiles Audit n) e h
 
-  pub threaded_found : (work : ThreadedWork) (held : Option Held) (found : Result ReportedEnd Refusal) → command.work ≡ Threaded work
-      → IsFoundOnThreads (threaded_meaning work values) (threaded_files work values) held found → IsFoundBy (meaning_of command) (files_of command) held found
-  threaded_found work held found is h = of_command (λ w v. IsFoundBy (meaning_by w v) (files_by (form_with w) v) held found) (Threaded work) is h
+-- no names are none as they are seen
+pub no_names : (names : List (Bor (List ℕ))) → map (λ name. name.now) names ≡ [] → names ≡ []
+no_names [] e = refl
+no_names (name ∷ names) e = cc
+
+-- ---- a command by its work
+
+module _ (command : Command) where
+  of_command : (P : Work → Type 0) (w : Work) → command.work ≡ w → P w → P command.work
+  of_command P w is h = subst P (sym is) h
+
+  pub has_plain_files : (plain : PlainWork) (names : List (List ℕ)) → command.work ≡ work.Plain plain → names ≡ files_of command → HasFiles plain names
+  has_plain_files plain names is same =
+      subst (λ n. HasFiles plain n) (sym (same ∙ (λ i. files_by (form_with (is i)) command.values))) (plain_fits plain command.values)
+
+  pub has_threaded_files : (threaded : ThreadedWork) (names : List (List ℕ)) → command.work ≡ work.Threaded threaded → names ≡ files_of command
+      → HasThreadedFiles threaded names
+  has_threaded_files threaded names is same =
+      subst (λ n. HasThreadedFiles threaded n) (sym (same ∙ (λ i. files_by (form_with (is i)) command.values))) (threaded_fits threaded command.values)
+
+  -- what it comes to
+  pub plain_found : (plain : PlainWork) (names : List (List ℕ)) (held : Option Held) (found : Result ReportedEnd ShownRefusal) → command.work ≡ work.Plain plain
+      → names ≡ files_of command → IsFoundBy (Plain (plain_meaning plain)) names held found → IsFoundBy (meaning_of command) (files_of command) held found
+  plain_found plain names held found is same h =
+      subst (λ n. IsFoundBy (meaning_of command) n held found) same
+      (of_command (λ w. IsFoundBy (meaning_by w command.values) names held found) (work.Plain plain) is h)
+
+  pub threaded_found : (threaded : ThreadedWork) (values : Values) (names : List (List ℕ)) (held : Option Held) (found : Result ReportedEnd ShownRefusal)
+      → command.work ≡ work.Threaded threaded → values ≡ command.values → names ≡ files_of command
+      → IsFoundBy (OnThreads (threaded_meaning threaded values)) names held found → IsFoundBy (meaning_of command) (files_of command) held found
+  threaded_found threaded values names held found is same_values same h =
+      subst (λ n. IsFoundBy (meaning_of command) n held found) same
+      (of_command (λ w. IsFoundBy (meaning_by w command.values) names held found) (work.Threaded threaded) is
+      (subst (λ v. IsFoundBy (OnThreads (threaded_meaning threaded v)) names held found) same_values h))

@@ -15,7 +15,6 @@ use Rattle.sb_rule.specs.declared.policies.Policy.{Policy}
 use Rattle.sb_scripttext.specs.SchedulePrinting.{in_order, is_actor_of_values}
 use Rattle.sb_base.specs.Numbers.{is_word32}
 use Rattle.sb_scripttext.specs.SchedulePrintingLaws.{OrdersAreRead, OrdersAreShort}
-use Rattle.sb_scripttext.specs.ScheduleTexts as schedules
 use Rattle.sb_statements.specs.Actors.{is_step_there, is_there, thread_count}
 use Rattle.sb_statements.specs.Limits.{most_start_lines, most_targets, most_threads, most_channels}
 use Rattle.sb_statements.specs.Soundness.{SoundTargets, are_targets, is_patience, is_sound, is_start, is_target, is_thread, names_differ}
@@ -26,12 +25,15 @@ use Rattle.sb_statements.specs.declared.scripts.Script.{Script}
 use Rattle.sb_statements.specs.declared.scripts.TargetScript.{TargetScript}
 use Rattle.sb_text.specs.Steps.{◌>>=◌}
 use Rattle.sb_top.specs.Orders.{OrdersAreReplayed, ThreadedRunsAreReplayed, order_text}
-use Rattle.sb_plain.specs.Contents.{Content, Refusal, most_bytes, policies_in, schedule_by, schedule_in, script_in}
-use Rattle.sb_plain.specs.Replay.{ended_by, replay_end, run_end, whole_run}
+use Rattle.sb_message.specs.declared.text_faults.TextFault.TheVariants as fault
+use Rattle.sb_plain.specs.Contents.{FileContent, ShownRefusal, most_bytes, read_as, schedule_if}
+use Rattle.sb_plain.specs.Replay.{ended_by, run_end, whole_run}
+use Rattle.sb_plain.specs.ScriptEnds.{ends, later_text}
 use Rattle.sb_ruletext.specs.Laws.{ReadPoliciesAreWellMade}
 use Rattle.sb_scripttext.specs.Readiness.{ReadScriptsAreReady}
 use Rattle.sb_plain.proofs.ReadFiles.{short_text}
 use Rattle.sb_plain.proofs.Readings.{script_known}
+use Rattle.sb_plain.proofs.ScriptEnds.{to_end}
 
 -- a script that is ready is sound
 ready_sound : (policies : List Policy) (script : Script) → is_ready policies script ≡ true → is_sound script ≡ true
@@ -112,20 +114,14 @@ scheduled_there targets (entry ∷ entries) e =
     all_append (is_there targets) (replicate entry.1 entry.0) (scheduled entries) (replicated targets entry.0 entry.1 parts.0) (scheduled_there targets entries parts.1)
 
 module _ (read : OrdersAreRead) (short : OrdersAreShort) (orders : OrdersAreSchedules) (targets : SoundTargets) (made : ReadPoliciesAreWellMade) (known : ReadScriptsAreReady) where
+  abbrev some_text : Result FileContent ShownRefusal → Result (Option FileContent) ShownRefusal
+  some_text r = r >>= λ text. Ok (Some text)
+
   -- the run by an order
   order_run : (policies : List Policy) (script : Script) (actors : List Actor)
       → whole_run policies script (in_order actors 0) ≡ ended_from script (steps script actors (start_world policies script))
   unfolding whole_run
   order_run policies script actors = ap (λ (l : List Actor). ended_from script (steps script l (start_world policies script))) (orders actors)
-
-  -- what a replay comes to whose files are read
-  replayed : (policy file : Content) (policies : List Policy) (script : Script) (order : List ℕ) (schedule : Schedule) → policies_in policy ≡ Ok policies
-      → script_in policies file ≡ Ok script → schedule_in script (Some order) ≡ Ok schedule
-      → replay_end (policy ∷ file ∷ Some order ∷ []) ≡ Ok (run_end policies script schedule)
-  replayed policy file policies script order schedule hp hs ho =
-      ap (λ (r : Result (List Policy) Refusal). r >>= λ (ps : List Policy). script_in ps file >>= λ (s : Script). schedule_in s (Some order) >>= λ (o : Schedule). Ok (run_end ps s o)) hp
-      ∙ (ap (λ (r : Result Script Refusal). r >>= λ (s : Script). schedule_in s (Some order) >>= λ (o : Schedule). Ok (run_end policies s o)) hs
-      ∙ ap (λ (r : Result Schedule Refusal). r >>= λ (o : Schedule). Ok (run_end policies script o)) ho)
 
   pub orders_are_replayed : OrdersAreReplayed
   orders_are_replayed policy file policies script actors hp hs there few =
@@ -133,12 +129,14 @@ module _ (read : OrdersAreRead) (short : OrdersAreShort) (orders : OrdersAreSche
       let values = actors_small targets script (ready_sound policies script ready.ready) actors there in
       let size : length (order_text actors) ≤ most_bytes = short actors 0 values few (omega arith) in
       let is = read script.targets actors 0 there values few (omega arith) in
-      let scheduled : schedule_in script (Some (order_text actors)) ≡ Ok (in_order actors 0) =
-      ap (λ (r : Result (List ℕ) Refusal). r >>= λ (text : List ℕ). schedule_by text (schedules.reading script.targets text)) (short_text most_bytes 3 (order_text actors) size)
-      ∙ ap (λ r. schedule_by (order_text actors) r) is in
+      let text : FileContent = record { which = 3; bytes = order_text actors } in
+      let scheduled : schedule_if script (Some text) ≡ Ok (in_order actors 0) = ap (read_as fault.Schedule text) is in
+      let third : later_text most_bytes (Some (order_text actors) ∷ []) ≡ Ok (Some text) = ap some_text (short_text most_bytes 3 (order_text actors) size) in
       record {
         short = size;
-        meant = replayed policy file policies script (order_text actors) (in_order actors 0) hp hs scheduled;
+        meant =
+            to_end most_bytes schedule_if (ends run_end) policy file (Some (order_text actors) ∷ []) policies script (Some text) (in_order actors 0) hp hs third
+            scheduled;
         can = record { ready = ready; there = entries_there script.targets actors there };
         is = order_run policies script actors;
       }

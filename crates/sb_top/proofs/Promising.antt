@@ -1,6 +1,5 @@
 -- The promise is kept.
 use Rattle.std.proofs.Common.{◌≡◌, ◌∙◌, ℕ, ◌+◌, ◌<◌, suc, true, ◌++◌, List, length, None, Some, Option, inl, inr, refl, sym, ap, subst}
-use Rattle.std.proofs.lemmas.Option.{none-some}
 use Rattle.std.specs.List.{list_all}
 use Rattle.std.specs.Prelude.{⊤, IfOk, IsOkAnd, IsSome, Result, Ok, Err, [], ◌∷◌, map, slice_get}
 use Rattle.sb_book.specs.Headline.{EntriesSayWhatWasDone}
@@ -13,7 +12,6 @@ use Rattle.sb_book.specs.declared.reports.Report.{Report}
 use Rattle.sb_commands.specs.Commands.{files_of, plain_files, threaded_files}
 use Rattle.sb_commands.specs.NumberWords.{number_of}
 use Rattle.sb_commands.specs.Usage.{Values}
-use Rattle.sb_commands.specs.declared.usage_faults.UsageFault.{UsageFault}
 use Rattle.sb_commands.specs.declared.works.PlainWork.TheVariants.{Audit, Check, Dup, Linked, Local, Replay}
 use Rattle.sb_commands.specs.declared.works.ThreadedWork.TheVariants.{Make, Run}
 use Rattle.sb_commands.specs.declared.works.Work.{Work}
@@ -25,12 +23,12 @@ use Rattle.sb_dup.specs.declared.moves.Move.{Move}
 use Rattle.sb_gen.specs.Scripts.{script_of}
 use Rattle.sb_kernel.specs.Namespaces.{Space}
 use Rattle.sb_kernel.specs.Openings.{opening}
-use Rattle.sb_link.specs.LinkTexts.{LinkFault, reading}
+use Rattle.sb_link.specs.LinkTexts.{reading}
 use Rattle.sb_link.specs.LinkedLaws.{LogsAreOfAnswers, ScriptCallsAreResolved, WereRead}
 use Rattle.sb_link.specs.ScriptCalls.{asked_by}
 use Rattle.sb_link.specs.Writing.{ReadLinksAreLinks}
 use Rattle.sb_link.specs.declared.links.Link.{Link}
-use Rattle.sb_local.specs.Laws.{ThinnedScriptsAreReady}
+use Rattle.sb_local.specs.Laws.{ActorsStay, ThinnedScriptsAreReady}
 use Rattle.sb_local.specs.Lines.{denial_lines}
 use Rattle.sb_local.specs.Thinning.{thin}
 use Rattle.sb_outside.specs.Outside.{GrowsBy, Held, joined}
@@ -48,38 +46,39 @@ use Rattle.sb_transcript.specs.Places.{results_before}
 use Rattle.sb_transcript.specs.Totals.{totals_line}
 use Rattle.sb_transcript.specs.Transcripts.{transcript}
 use Rattle.sb_outside.specs.declared.sink.SinkFault.{SinkFault}
-use Rattle.sb_outside.specs.declared.files.ReadCause.{ReadCause}
-use Rattle.sb_plain.specs.Contents.{Content, Refusal, no_schedule, policies_in, script_in, text_in}
-use Rattle.sb_plain.specs.Dup as dup
-use Rattle.sb_plain.specs.Dup.{answers_after, dup_end, moved_by, moved_text, moves_after, moves_end, moves_in}
-use Rattle.sb_plain.specs.Linked.{calls_end, calls_text, linked_end, links_after, links_by, links_in}
-use Rattle.sb_plain.specs.Local as local
-use Rattle.sb_plain.specs.Local.{ended_after, local_end, local_run_end, sent_schedule_after, thinned}
+use Rattle.sb_book.specs.ReadyScripts.{Ready}
+use Rattle.sb_message.specs.Statuses.{status_of}
+use Rattle.sb_message.specs.declared.statuses.FileRefusal.TheVariants.{ReadFault}
+use Rattle.sb_message.specs.declared.statuses.Refusal.{Refusal}
+use Rattle.sb_message.specs.declared.statuses.Refusal.TheVariants.{File, NoMemory, Usage}
+use Rattle.sb_message.specs.declared.statuses.Status.TheVariants.{Done, Refused, Unfinished, WriteFault}
+use Rattle.sb_message.specs.declared.text_faults.TextFault.TheVariants.{Links}
+use Rattle.sb_text.specs.Steps.{◌>>=◌}
+use Rattle.sb_plain.specs.Contents.{Content, Contents, FileContent, ShownRefusal, alone, file_in, missing, most_bytes, no_schedule, schedule_if}
+use Rattle.sb_plain.specs.Dup.{answers_after, dup_end, moved_by, moved_text, moves_end, moves_in, moves_of}
+use Rattle.sb_plain.specs.Linked.{calls_end, calls_text, linked_end, links_of}
+use Rattle.sb_plain.specs.Local.{local_end, local_run_end, thinned}
 use Rattle.sb_plain.specs.Effects.{Effect}
 use Rattle.sb_plain.specs.Endings.{IsDone, IsEnding, IsEndFor, IsMeant, IsPlainEnding, IsThreadedEnding, IsUnwritten, IsWritten}
-use Rattle.sb_plain.specs.Ends.{AreContents, Contents, End, IsOrderOf}
-use Rattle.sb_plain.specs.Outcomes.{file_of}
-use Rattle.sb_plain.specs.Replay.{replay_end, run_end, run_text, schedule_after, whole_run}
-use Rattle.sb_plain.specs.ScriptEnds.{no_third, script_end, third_by}
+use Rattle.sb_plain.specs.Ends.{AreContents, End, IsOrderOf}
+use Rattle.sb_plain.specs.Replay.{if_finished, replay_end, run_end, run_status, whole_run}
+use Rattle.sb_plain.specs.ScriptEnds.{ends, later_text, needed, nothing, script_end, script_read}
 use Rattle.sb_plain.specs.Sound.{RunsAreSound}
 use Rattle.sb_plain.specs.declared.outcomes.Outcome.{Outcome}
-use Rattle.sb_plain.specs.declared.outcomes.Status.TheVariants.{Done, NoMemory, ReadFault, Unfinished, Usage, WriteFault}
-use Rattle.sb_plain.proofs.Linking.{linked_suited}
-use Rattle.sb_plain.proofs.LocalRuns.{local_suited}
-use Rattle.sb_plain.proofs.Moving.{dup_suited}
-use Rattle.sb_plain.proofs.Readings.{bound, can_run, same_end, script_known, steps_there}
-use Rattle.sb_plain.proofs.Replaying.{replay_suited}
-use Rattle.sb_plain.proofs.Suiting.{RefusesFor}
+use Rattle.sb_plain.proofs.LocalRuns.{steps_stay}
+use Rattle.sb_plain.proofs.Readings.{bound, can_run, same_end, script_known, steps_there, text_read}
+use Rattle.sb_plain.proofs.ScriptEnds.{ReadParts, read_parts}
+use Rattle.sb_top.proofs.DoneEnds.{done_end, end_done, refused}
+use Rattle.sb_top.proofs.SentSchedules.{same_schedule}
 use Rattle.sb_top.specs.Make.{made_end, made_line, made_policies, made_text, make_end}
 use Rattle.sb_top.specs.Promise.{AreOpened, IsAsPromised, IsDupAsPromised, IsLinkedAsPromised, IsLocalAsPromised, IsMakeAsPromised, IsReplayAsPromised, IsThreadedRunAsPromised, PromiseIsKept}
 use Rattle.sb_top.specs.PromisedRuns.{IsPromisedRun, IsTaken, IsTranscript}
 use Rattle.sb_top.specs.Top.{meaning_by}
-use Rattle.sb_top.specs.Run.{nothing_after, ordered_end, threads_end}
+use Rattle.sb_top.specs.Run.{ordered_end, threads_end}
 use Rattle.sb_top.specs.Totals.{TotalsAreOfVerdicts}
 use Rattle.sb_top.proofs.Clean.{calls_leave_clean}
 use Rattle.sb_top.proofs.Deciding.{denied_has_reason, entry_taken, faked_has_rule, performed_is_allowed, refused_has_fault}
-use Rattle.sb_top.proofs.Made.{make_suited, script_is_calls}
-use Rattle.sb_top.proofs.Running.{run_suited}
+use Rattle.sb_top.proofs.Made.{script_is_calls}
 
 -- ---- what the laws below give
 
@@ -98,6 +97,7 @@ pub record Laws : Type 0 where
   pub follow : ResultsFollow
   pub last : TotalsEnd
   pub thin_ready : ThinnedScriptsAreReady
+  pub actors : ActorsStay
   pub logs : LogsAreOfAnswers
   pub resolved : ScriptCallsAreResolved
   pub links : ReadLinksAreLinks
@@ -148,126 +148,47 @@ is_transcript laws policies script report ready =
       totals = ap (λ l. slice_get l (length report.entries + result_count report.results)) lines ∙ laws.last script report;
     }
 
--- ---- a call that is done
+-- ---- a command that is done
 
--- contents are as many as names
-counted : (held : Option Held) (names : List (List ℕ)) (contents : Contents) → AreContents held names contents → length contents ≡ length names
-counted held [] [] h = refl
-counted held [] (c ∷ contents) h = absurd h
-counted held (name ∷ names) [] h = absurd h
-counted held (name ∷ names) (c ∷ contents) h = ap suc (counted held names contents h.1)
-
--- a refusal that names a file is not Done
-not_done : (files : ℕ) (refusal : Refusal) → RefusesFor {A = End} files (Err refusal) → refusal.status ≡ Done → ⊥
-not_done files refusal h e = none-some h.0 (sym (ap file_of e) ∙ h.1)
-
-read_fault : (n : ℕ) (cause : ReadCause) → ReadFault n cause ≡ Done → ⊥
-read_fault n cause e = cc
-
-write_fault : (fault : SinkFault) → WriteFault fault ≡ Done → ⊥
-write_fault fault e = cc
-
-no_memory : NoMemory ≡ Done → ⊥
-no_memory e = cc
-
-unfinished : (target thread : ℕ) → Unfinished target thread ≡ Done → ⊥
-unfinished target thread e = cc
-
--- it came to an end of the command
-done_end : {G S : Type 0} (e : Effect G S) (o : Outcome) (files : ℕ) (meaning : Contents → Result End Refusal) (contents : Contents)
-    → RefusesFor files (meaning contents) → IsEndFor meaning contents e o → o.status ≡ Done → (end : End) × (meaning contents ≡ Ok end) × IsDone end e o
-done_end e o files meaning contents refuses h done = by h
-  where
-    meant : (r : Result End Refusal) → meaning contents ≡ r → RefusesFor files r → IsMeant r e o → (end : End) × (meaning contents ≡ Ok end) × IsDone end e o
-    meant (Ok end) is k m = (end, is, m)
-    meant (Err refusal) is k m = absurd (not_done files refusal k (sym m.status ∙ done))
-
-    unwritten : (r : Result End Refusal) → IsOkAnd r (λ x. IsUnwritten x e o) → ⊥
-    unwritten (Ok x) u = write_fault u.fault (sym u.status ∙ done)
-    unwritten (Err refusal) u = u
-
-    by : IsEndFor meaning contents e o → (end : End) × (meaning contents ≡ Ok end) × IsDone end e o
-    by (inl m) = meant (meaning contents) refl refuses m
-    by (inr (inl u)) = absurd (read_fault u.file u.cause (sym u.is.status ∙ done))
-    by (inr (inr (inl u))) = absurd (unwritten (meaning contents) u)
-    by (inr (inr (inr s))) = absurd (no_memory (sym s.status ∙ done))
-
--- an end of policies, a script and what is read after them
-record OpenedEnd {A : Type 0} (later : List Policy → Script → Contents → Result A Refusal) (end : List Policy → Script → A → End) (contents : Contents) (reached : End) : Type 0 where
-  policies : List Policy
-  script : Script
+-- an end of policies, a script and what is read of the file after them
+record OpenedEnd {A : Type 0} (most : ℕ) (later : Script → Option FileContent → Result A ShownRefusal) (end : List Policy → Script → A → Result End ShownRefusal)
+    (contents : Contents) (reached : End) : Type 0 where
+  first : Content
+  second : Content
   rest : Contents
-  opened : AreOpened contents policies script rest
-  after : A
-  read : later policies script rest ≡ Ok after
-  same : end policies script after ≡ reached
+  are : contents ≡ first ∷ second ∷ rest
+  read : Ready × A
+  parts : ReadParts most later first second rest read
+  same : end read.0.policies read.0.script read.1 ≡ Ok reached
 
-opened_end : {A : Type 0} (later : List Policy → Script → Contents → Result A Refusal) (end : List Policy → Script → A → End) (contents : Contents) (reached : End)
-    → script_end later end contents ≡ Ok reached → OpenedEnd later end contents reached
-opened_end later end [] reached e = cc
-opened_end later end (first ∷ []) reached e = cc
-opened_end later end (first ∷ second ∷ files) reached e =
-    let ps = bound (policies_in first) _ reached e in
-    let script = bound (script_in ps.0 second) _ reached ps.2 in
-    let x = bound (later ps.0 script.0 files) _ reached script.2 in
-    record {
-      policies = ps.0;
-      script = script.0;
-      rest = files;
-      opened = record { first = first; second = second; are = refl; policies_read = ps.1; script_read = script.1 };
-      after = x.0;
-      read = x.1;
-      same = same_end (end ps.0 script.0 x.0) reached x.2;
-    }
+opened_end : {A : Type 0} (most : ℕ) (later : Script → Option FileContent → Result A ShownRefusal) (end : List Policy → Script → A → Result End ShownRefusal)
+    (contents : Contents) (reached : End) → script_end most later end contents ≡ Ok reached → OpenedEnd most later end contents reached
+opened_end most later end [] reached e = cc
+opened_end most later end (first ∷ []) reached e = cc
+opened_end {A} most later end (first ∷ second ∷ files) reached e =
+    let r = bound (script_read most later (first ∷ second ∷ files)) (λ (x : Ready × A). end x.0.policies x.0.script x.1) reached e in
+    record { first = first; second = second; rest = files; are = refl; read = r.0; parts = read_parts most later first second files r.0 r.1; same = r.2 }
 
--- the end of a run by a schedule left no thread unfinished, and its transcript was written
-run_done : {G S : Type 0} (e : Effect G S) (o : Outcome) (policies : List Policy) (script : Script) (schedule : Schedule) → IsDone (run_end policies script schedule) e o
-    → o.status ≡ Done → ((whole_run policies script schedule).unfinished ≡ None)
-    × GrowsBy e.written (e.pending ++ transcript script (whole_run policies script schedule).report) e.written'
-run_done e o policies script schedule d done = by (whole_run policies script schedule).unfinished refl d.written
+-- the file after the script, which has to be there
+third_of : {A : Type 0} (step : FileContent → Result A ShownRefusal) (rest : Contents) (text : Option FileContent) (x : A) → later_text most_bytes rest ≡ Ok text
+    → needed step text ≡ Ok x → alone 3 (λ content. file_in 3 content >>= step) rest ≡ Ok x
+third_of {A} step [] text x e h = by text h (same text e)
   where
-    by : (left : Option (ℕ × ℕ)) → (whole_run policies script schedule).unfinished ≡ left → IsWritten (run_text script (whole_run policies script schedule) left) e o
-        → ((whole_run policies script schedule).unfinished ≡ None)
-        × GrowsBy e.written (e.pending ++ transcript script (whole_run policies script schedule).report) e.written'
-    by None is w = (is, w.1)
-    by (Some thread) is w = absurd (unfinished thread.0 thread.1 (sym w.0 ∙ done))
+    same : (t : Option FileContent) → ◌≡◌ {A = Result (Option FileContent) ShownRefusal} (Ok None) (Ok t) → None ≡ t
+    same t k = cc
 
--- the same of what the targets of a script send, after the lines of what they deny themselves
-sent_done : {G S : Type 0} (e : Effect G S) (o : Outcome) (lines : List ℕ) (policies : List Policy) (script : Script) (schedule : Schedule)
-    → IsDone (ended_after lines policies script (whole_run policies script schedule)) e o → o.status ≡ Done → ((whole_run policies script schedule).unfinished ≡ None)
-    × GrowsBy e.written (e.pending ++ (lines ++ transcript script (whole_run policies script schedule).report)) e.written'
-sent_done e o lines policies script schedule d done = by (whole_run policies script schedule).unfinished refl d.written
+    by : (t : Option FileContent) → needed step t ≡ Ok x → None ≡ t → ◌≡◌ {A = Result A ShownRefusal} (Err (missing 3)) (Ok x)
+    by None k is = k
+    by (Some t) k is = cc
+third_of {A} step (content ∷ []) text x e h = by (file_in 3 content) e
   where
-    by : (left : Option (ℕ × ℕ)) → (whole_run policies script schedule).unfinished ≡ left
-        → IsWritten (local.text_after lines script (whole_run policies script schedule) left) e o
-        → ((whole_run policies script schedule).unfinished ≡ None)
-        × GrowsBy e.written (e.pending ++ (lines ++ transcript script (whole_run policies script schedule).report)) e.written'
-    by None is w = (is, w.1)
-    by (Some thread) is w = absurd (unfinished thread.0 thread.1 (sym w.0 ∙ done))
+    same : (t : FileContent) (u : Option FileContent) → ◌≡◌ {A = Result (Option FileContent) ShownRefusal} (Ok (Some t)) (Ok u) → u ≡ Some t
+    same t u k = cc
 
--- and of a run that moves follow
-moved_done : {G S : Type 0} (e : Effect G S) (o : Outcome) (policies : List Policy) (script : Script) (moves : List Move) (schedule : Schedule)
-    → IsDone (moved_by policies script moves (whole_run policies script schedule)) e o → o.status ≡ Done → ((whole_run policies script schedule).unfinished ≡ None)
-    × GrowsBy e.written (e.pending ++ (transcript script (whole_run policies script schedule).report
-    ++ lines_of_moves script (answers_after (setting_of policies script).policies moves (whole_run policies script schedule).report))) e.written'
-unfolding moved_text
-moved_done e o policies script moves schedule d done = by (whole_run policies script schedule).unfinished refl d.written
-  where
-    by : (left : Option (ℕ × ℕ)) → (whole_run policies script schedule).unfinished ≡ left
-        → IsWritten (dup.text_after (setting_of policies script).policies script moves (whole_run policies script schedule).report left) e o
-        → ((whole_run policies script schedule).unfinished ≡ None)
-        × GrowsBy e.written (e.pending ++ (transcript script (whole_run policies script schedule).report
-        ++ lines_of_moves script (answers_after (setting_of policies script).policies moves (whole_run policies script schedule).report))) e.written'
-    by None is w = (is, w.1)
-    by (Some thread) is w = absurd (unfinished thread.0 thread.1 (sym w.0 ∙ done))
-
--- the text of links that were read
-links_text : (content : Content) (links : List Link) → links_in content ≡ Ok links → (text : List ℕ) × (reading text ≡ Ok links)
-links_text content links e = let at = bound (text_in 3 content) _ links e in (at.0, by at.0 (reading at.0) at.2)
-  where
-    by : (text : List ℕ) (r : Result (List Link) LinkFault) → links_by text r ≡ Ok links → r ≡ Ok links
-    by text (Ok p) h = cc
-    by text (Err f) h = cc
+    by : (r : Result FileContent ShownRefusal) → (r >>= λ t. Ok (Some t)) ≡ Ok text → (r >>= step) ≡ Ok x
+    by (Ok t) k = subst (λ (u : Option FileContent). needed step u ≡ Ok x) (same t text k) h
+    by (Err refusal) k = cc
+third_of step (content ∷ further ∷ contents) text x e h = cc
 
 -- the two lines of `make` are what was made, and the totals of its report
 made_of_report : Laws → (seed targets calls : ℕ) (report : Report) → IsReady made_policies (script_of seed targets calls)
@@ -283,42 +204,44 @@ made_of_report laws seed targets calls report ready fits =
 module _ {G S : Type 0} (laws : Laws) (e : Effect G S) (o : Outcome) (done : o.status ≡ Done) where
   replay_promised : (values : Values) → IsPlainEnding replay_end (plain_files Replay values) e o → IsReplayAsPromised (plain_files Replay values) e o
   replay_promised values h =
-      let names = plain_files Replay values in
-      let refuses = (replay_suited values.last).refuses h.contents (counted e.held names h.contents h.held) in
-      let end = done_end e o (length names) replay_end h.contents refuses h.ends done in
-      let found = opened_end schedule_after run_end h.contents end.0 end.1 in
-      let its : IsDone (run_end found.policies found.script found.after) e o = subst (λ x. IsDone x e o) (sym found.same) end.2 in
-      let ran = run_done e o found.policies found.script found.after its done in
-      let there = steps_there laws.there found.script found.rest found.after found.read in
-      let can = can_run laws.made laws.ready found.opened.first found.opened.second found.policies found.script found.after found.opened.policies_read
-      found.opened.script_read there in
-      let report = (whole_run found.policies found.script found.after).report in
+      let end = done_end e o replay_end h.contents h.ends done in
+      let found = opened_end most_bytes schedule_if (ends run_end) h.contents end.0 end.1 in
+      let policies = found.read.0.policies in
+      let script = found.read.0.script in
+      let schedule = found.read.1 in
+      let its : IsDone (run_end policies script schedule) e o = subst (λ x. IsDone x e o) (sym (same_end (run_end policies script schedule) end.0 found.same)) end.2 in
+      let ran = end_done e o (transcript script (whole_run policies script schedule).report) (whole_run policies script schedule).unfinished its.status its.written done in
+      let there = steps_there laws.there script found.parts.text schedule found.parts.value in
+      let can = can_run laws.made laws.ready found.first found.second policies script schedule found.parts.policies found.parts.script there in
+      let report = (whole_run policies script schedule).report in
       record {
         contents = h.contents;
         held = h.held;
-        policies = found.policies;
-        script = found.script;
+        policies = policies;
+        script = script;
         rest = found.rest;
-        opened = found.opened;
-        schedule = found.after;
-        schedule_read = found.read;
+        opened = record { first = found.first; second = found.second; are = found.are; policies_read = found.parts.policies; script_read = found.parts.script };
+        schedule = schedule;
+        schedule_read = ap (λ r. r >>= schedule_if script) found.parts.is_text ∙ found.parts.value;
         report = report;
         reported = its.report;
-        run = promised_run laws found.policies found.script found.after can ran.0;
-        text = transcript found.script report;
-        transcript = is_transcript laws found.policies found.script report can.ready;
+        run = promised_run laws policies script schedule can ran.0;
+        text = transcript script report;
+        transcript = is_transcript laws policies script report can.ready;
         written = ran.1;
       }
 
   -- `dup` by a schedule
   dup_by : (names : List (List ℕ)) (contents : Contents) → AreContents e.held names contents → (policies : List Policy) (script : Script) (rest : Contents)
-      → AreOpened contents policies script rest → (moves : List Move) → third_by (moves_in script) rest ≡ Ok moves → (schedule : Schedule) → schedule ≡ no_schedule
+      → AreOpened contents policies script rest → (moves : List Move) → alone 3 (moves_in script) rest ≡ Ok moves → (schedule : Schedule) → schedule ≡ no_schedule
       → IsDone (moved_by policies script moves (whole_run policies script schedule)) e o → IsDupAsPromised names e o
+  unfolding moved_text
   dup_by names contents held policies script rest opened moves read schedule default its =
-      let ran = moved_done e o policies script moves schedule its done in
+      let report = (whole_run policies script schedule).report in
+      let ran = end_done e o (transcript script report ++ lines_of_moves script (answers_after (setting_of policies script).policies moves report))
+      (whole_run policies script schedule).unfinished its.status its.written done in
       let there = subst (λ (s : Schedule). list_all (is_step_there script.targets) s.steps ≡ true) (sym default) refl in
       let can = can_run laws.made laws.ready opened.first opened.second policies script schedule opened.policies_read opened.script_read there in
-      let report = (whole_run policies script schedule).report in
       record {
         contents = contents;
         held = held;
@@ -338,35 +261,54 @@ module _ {G S : Type 0} (laws : Laws) (e : Effect G S) (o : Outcome) (done : o.s
         written = ran.1;
       }
 
-  nothing_left : (files : Contents) (x : ⊤) → no_third files ≡ Ok x → files ≡ []
-  nothing_left [] x e = refl
-  nothing_left (c ∷ cs) x e = cc
+  nothing_left : (files : Contents) (text : Option FileContent) (x : ⊤) → later_text most_bytes files ≡ Ok text → nothing text ≡ Ok x → files ≡ []
+  nothing_left [] text x e h = refl
+  nothing_left (content ∷ []) text x e h = by (file_in 3 content) e
+    where
+      same : (t : FileContent) (u : Option FileContent) → ◌≡◌ {A = Result (Option FileContent) ShownRefusal} (Ok (Some t)) (Ok u) → u ≡ Some t
+      same t u k = cc
+
+      by : (r : Result FileContent ShownRefusal) → (r >>= λ t. Ok (Some t)) ≡ Ok text → content ∷ [] ≡ []
+      by (Ok t) k = absurd (no_text (subst (λ (u : Option FileContent). nothing u ≡ Ok x) (same t text k) h))
+        where
+          no_text : ◌≡◌ {A = Result ⊤ ShownRefusal} (Err (missing 3)) (Ok x) → ⊥
+          no_text m = cc
+      by (Err refusal) k = cc
+  nothing_left (content ∷ further ∷ contents) text x e h = cc
 
   run_promised : (values : Values) → IsThreadedEnding threads_end (threaded_files Run values) e o → IsThreadedRunAsPromised (threaded_files Run values) e o
   run_promised values h =
-      let names = threaded_files Run values in
-      let refuses = (run_suited h.order).refuses h.contents (counted e.held names h.contents h.held) in
-      let end = done_end e o (length names) (threads_end h.order) h.contents refuses h.ends done in
-      let found = opened_end nothing_after (ordered_end h.order) h.contents end.0 end.1 in
-      let its : IsDone (run_end found.policies found.script h.order) e o = subst (λ x. IsDone x e o) (sym found.same) end.2 in
+      let end = done_end e o (threads_end h.order) h.contents h.ends done in
+      let found = opened_end most_bytes (λ script. nothing) (ordered_end h.order) h.contents end.0 end.1 in
+      let policies = found.read.0.policies in
+      let script = found.read.0.script in
+      let same = same_end (run_end policies script h.order) end.0 found.same in
+      let its : IsDone (run_end policies script h.order) e o = subst (λ x. IsDone x e o) (sym same) end.2 in
       let some : IsSome o.report = subst IsSome (sym its.report) refl in
       let of_end : IsOrderOf h.order end.0 = subst (λ r. IfOk r (IsOrderOf h.order)) end.1 (h.ordered some) in
-      let order : IsOrderOf h.order (run_end found.policies found.script h.order) = subst (IsOrderOf h.order) (sym found.same) of_end in
-      let ran = run_done e o found.policies found.script h.order its done in
-      let report = (whole_run found.policies found.script h.order).report in
+      let order : IsOrderOf h.order (run_end policies script h.order) = subst (IsOrderOf h.order) (sym same) of_end in
+      let report = (whole_run policies script h.order).report in
+      let ran = end_done e o (transcript script report) (whole_run policies script h.order).unfinished its.status its.written done in
+      let none = nothing_left found.rest found.parts.text found.read.1 found.parts.is_text found.parts.value in
       record {
         contents = h.contents;
         held = h.held;
-        policies = found.policies;
-        script = found.script;
-        opened = subst (AreOpened h.contents found.policies found.script) (nothing_left found.rest found.after found.read) found.opened;
+        policies = policies;
+        script = script;
+        opened = record {
+          first = found.first;
+          second = found.second;
+          are = found.are ∙ ap (λ rest. found.first ∷ found.second ∷ rest) none;
+          policies_read = found.parts.policies;
+          script_read = found.parts.script;
+        };
         order = h.order;
         no_rounds = order.no_rounds;
         report = report;
         reported = its.report;
-        run = promised_run laws found.policies found.script h.order order.can ran.0;
-        text = transcript found.script report;
-        transcript = is_transcript laws found.policies found.script report order.can.ready;
+        run = promised_run laws policies script h.order order.can ran.0;
+        text = transcript script report;
+        transcript = is_transcript laws policies script report order.can.ready;
         written = ran.1;
       }
 
@@ -379,8 +321,7 @@ module _ {G S : Type 0} (laws : Laws) (e : Effect G S) (o : Outcome) (done : o.s
   make_promised : (seed targets calls : ℕ) → IsThreadedEnding (make_end seed targets calls) [] e o → IsMakeAsPromised seed targets calls e o
   make_promised seed targets calls h =
       let script = script_of seed targets calls in
-      let refuses = (make_suited seed targets calls h.order).refuses h.contents (counted e.held [] h.contents h.held) in
-      let end = done_end e o 0 (make_end seed targets calls h.order) h.contents refuses h.ends done in
+      let end = done_end e o (make_end seed targets calls h.order) h.contents h.ends done in
       let same = made_same seed targets calls h.order h.contents end.0 end.1 in
       let its : IsDone (made_end seed targets calls h.order) e o = subst (λ x. IsDone x e o) (sym same) end.2 in
       let some : IsSome o.report = subst IsSome (sym its.report) refl in
@@ -395,82 +336,88 @@ module _ {G S : Type 0} (laws : Laws) (e : Effect G S) (o : Outcome) (done : o.s
         report = report;
         reported = its.report;
         run = promised_run laws made_policies script h.order order.can order.finished;
-        written = subst (λ t. GrowsBy e.written (e.pending ++ t) e.written') text its.written.1;
+        written = subst (λ t. GrowsBy e.written (e.pending ++ t) e.written') text its.written;
       }
 
   local_promised : (values : Values) → IsPlainEnding local_end (plain_files Local values) e o → IsLocalAsPromised (plain_files Local values) e o
   unfolding thinned
   local_promised values h =
-      let names = plain_files Local values in
-      let refuses = (local_suited values.last).refuses h.contents (counted e.held names h.contents h.held) in
-      let end = done_end e o (length names) local_end h.contents refuses h.ends done in
-      let found = opened_end sent_schedule_after local_run_end h.contents end.0 end.1 in
-      let judges = (setting_of found.policies found.script).policies in
-      let t = thin judges found.script in
+      let end = done_end e o local_end h.contents h.ends done in
+      let found = opened_end most_bytes schedule_if (ends local_run_end) h.contents end.0 end.1 in
+      let policies = found.read.0.policies in
+      let script = found.read.0.script in
+      let schedule = found.read.1 in
+      let judges = (setting_of policies script).policies in
+      let t = thin judges script in
       let sent = t.script in
-      let its : IsDone (local_run_end found.policies found.script found.after) e o = subst (λ x. IsDone x e o) (sym found.same) end.2 in
-      let ran = sent_done e o (denial_lines found.script t.denied) found.policies sent found.after its done in
-      let there = steps_there laws.there sent found.rest found.after found.read in
-      let known = script_known laws.made laws.ready found.opened.first found.opened.second found.policies found.script found.opened.policies_read found.opened.script_read in
-      let can : CanRun found.policies sent found.after = record { ready = laws.thin_ready judges found.policies found.script known; there = there } in
-      let report = (whole_run found.policies sent found.after).report in
+      let its : IsDone (local_run_end policies script schedule) e o = subst (λ x. IsDone x e o) (sym (same_end (local_run_end policies script schedule) end.0 found.same)) end.2 in
+      let report = (whole_run policies sent schedule).report in
+      let ran = end_done e o (denial_lines script t.denied ++ transcript sent report) (whole_run policies sent schedule).unfinished its.status its.written done in
+      let there = steps_stay laws.actors judges script schedule.steps (steps_there laws.there script found.parts.text schedule found.parts.value) in
+      let known = script_known laws.made laws.ready found.first found.second policies script found.parts.policies found.parts.script in
+      let can : CanRun policies sent schedule = record { ready = laws.thin_ready judges policies script known; there = there } in
       record {
         contents = h.contents;
         held = h.held;
-        policies = found.policies;
-        script = found.script;
+        policies = policies;
+        script = script;
         rest = found.rest;
-        opened = found.opened;
+        opened = record { first = found.first; second = found.second; are = found.are; policies_read = found.parts.policies; script_read = found.parts.script };
         sent = sent;
         thinned = refl;
-        schedule = found.after;
-        schedule_read = found.read;
+        schedule = schedule;
+        schedule_read =
+            ap (λ r. r >>= schedule_if sent) found.parts.is_text
+            ∙ (same_schedule sent script (λ actor. laws.actors judges script actor) found.parts.text ∙ found.parts.value);
         report = report;
         reported = its.report;
-        run = promised_run laws found.policies sent found.after can ran.0;
+        run = promised_run laws policies sent schedule can ran.0;
         text = transcript sent report;
-        transcript = is_transcript laws found.policies sent report can.ready;
+        transcript = is_transcript laws policies sent report can.ready;
         written = ran.1;
       }
 
   dup_promised : (values : Values) → IsPlainEnding dup_end (plain_files Dup values) e o → IsDupAsPromised (plain_files Dup values) e o
   dup_promised values h =
-      let names = plain_files Dup values in
-      let refuses = dup_suited.refuses h.contents (counted e.held names h.contents h.held) in
-      let end = done_end e o (length names) dup_end h.contents refuses h.ends done in
-      let found = opened_end moves_after moves_end h.contents end.0 end.1 in
-      let its : IsDone (moves_end found.policies found.script found.after) e o = subst (λ x. IsDone x e o) (sym found.same) end.2 in
-      dup_by names h.contents h.held found.policies found.script found.rest found.opened found.after found.read no_schedule refl its
+      let end = done_end e o dup_end h.contents h.ends done in
+      let found = opened_end most_bytes (λ script. needed (moves_of script)) (ends moves_end) h.contents end.0 end.1 in
+      let policies = found.read.0.policies in
+      let script = found.read.0.script in
+      let moves = found.read.1 in
+      let its : IsDone (moves_end policies script moves) e o = subst (λ x. IsDone x e o) (sym (same_end (moves_end policies script moves) end.0 found.same)) end.2 in
+      let opened : AreOpened h.contents policies script found.rest =
+      record { first = found.first; second = found.second; are = found.are; policies_read = found.parts.policies; script_read = found.parts.script } in
+      dup_by (plain_files Dup values) h.contents h.held policies script found.rest opened moves
+      (third_of (moves_of script) found.rest found.parts.text moves found.parts.is_text found.parts.value) no_schedule refl its
 
-  links_known : (files : Contents) (links : List Link) → third_by links_in files ≡ Ok links → WereRead links
-  links_known [] links h = cc
-  links_known (c ∷ []) links h =
-      let read = links_text c links h in
-      let known = laws.links read.0 links read.1 in
+  links_known : (text : Option FileContent) (links : List Link) → needed links_of text ≡ Ok links → WereRead links
+  links_known None links h = cc
+  links_known (Some text) links h =
+      let known = laws.links text.bytes links (text_read Links text (reading text.bytes) links h) in
       record { are = known.0; writable = known.1 }
-  links_known (c ∷ d ∷ cs) links h = cc
 
   linked_promised : (values : Values) → IsPlainEnding linked_end (plain_files Linked values) e o → IsLinkedAsPromised (plain_files Linked values) e o
   unfolding calls_text
   linked_promised values h =
-      let names = plain_files Linked values in
-      let refuses = linked_suited.refuses h.contents (counted e.held names h.contents h.held) in
-      let end = done_end e o (length names) linked_end h.contents refuses h.ends done in
-      let found = opened_end links_after calls_end h.contents end.0 end.1 in
-      let its : IsDone (calls_end found.policies found.script found.after) e o = subst (λ x. IsDone x e o) (sym found.same) end.2 in
-      let ready = script_known laws.made laws.ready found.opened.first found.opened.second found.policies found.script found.opened.policies_read found.opened.script_read in
+      let end = done_end e o linked_end h.contents h.ends done in
+      let found = opened_end most_bytes (λ script. needed links_of) (ends calls_end) h.contents end.0 end.1 in
+      let policies = found.read.0.policies in
+      let script = found.read.0.script in
+      let links = found.read.1 in
+      let its : IsDone (calls_end policies script links) e o = subst (λ x. IsDone x e o) (sym (same_end (calls_end policies script links) end.0 found.same)) end.2 in
+      let ready = script_known laws.made laws.ready found.first found.second policies script found.parts.policies found.parts.script in
       record {
         contents = h.contents;
         held = h.held;
-        policies = found.policies;
-        script = found.script;
+        policies = policies;
+        script = script;
         rest = found.rest;
-        opened = found.opened;
-        links = found.after;
-        links_read = found.read;
-        log = laws.logs found.after (setting_of found.policies found.script) (asked_by found.script);
-        performed = laws.resolved found.policies found.script found.after ready (links_known found.rest found.after found.read);
-        written = its.written.1;
+        opened = record { first = found.first; second = found.second; are = found.are; policies_read = found.parts.policies; script_read = found.parts.script };
+        links = links;
+        links_read = third_of links_of found.rest found.parts.text links found.parts.is_text found.parts.value;
+        log = laws.logs links (setting_of policies script) (asked_by script);
+        performed = laws.resolved policies script links ready (links_known found.parts.text links found.parts.value);
+        written = its.written;
       }
 
   -- each command
@@ -485,9 +432,6 @@ module _ {G S : Type 0} (laws : Laws) (e : Effect G S) (o : Outcome) (done : o.s
   of_work (Threaded Run) values h = run_promised values h
   of_work (Threaded Make) values h = make_promised (number_of values.first) (number_of values.second) (number_of values.third) h
 
-usage : (fault : UsageFault) → Usage fault ≡ Done → ⊥
-usage fault e = cc
-
 pub promise_is_kept : (G S : Type 0) → Laws → PromiseIsKept G S
 promise_is_kept G S laws (Ok command) e o h done = of_work laws e o done command.work command.values h
-promise_is_kept G S laws (Err fault) e o h done = absurd (usage h.found (sym h.is.status ∙ done))
+promise_is_kept G S laws (Err fault) e o h done = absurd (refused (Usage h.found) (sym h.is.status ∙ done))

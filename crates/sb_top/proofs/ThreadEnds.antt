@@ -6,7 +6,7 @@ use Rattle.sb_core.specs.Runs.{IsSomeRun}
 use Rattle.sb_core.specs.declared.runs.Ran.{Ran}
 use Rattle.sb_rule.specs.declared.policies.Policy.{Policy}
 use Rattle.sb_statements.specs.declared.scripts.Script.{Script}
-use Rattle.sb_plain.specs.Coming.{ReportedEnd, reported_run}
+use Rattle.sb_plain.specs.Readings.{ReportedEnd, reported_run}
 use Rattle.sb_plain.specs.Replay.{whole_run}
 use Rattle.sb_top.specs.Run.{IsThreadsEnd}
 

@@ -5,8 +5,8 @@ use Rattle.sb_audit.specs.declared.answers.AuditAnswer.TheVariants.{Yes}
 use Rattle.sb_book.specs.Reports.{result_count}
 use Rattle.sb_book.specs.declared.reports.Report.{Report}
 use Rattle.sb_commands.specs.Commands.{Command, files_of}
-use Rattle.sb_commands.specs.declared.works.PlainWork.TheVariants.{Audit, Check, Dup, Linked, Local, Replay}
-use Rattle.sb_commands.specs.declared.works.ThreadedWork.TheVariants.{Make, Run}
+use Rattle.sb_commands.specs.declared.works.PlainWork.TheVariants.{Replay}
+use Rattle.sb_commands.specs.declared.works.ThreadedWork.TheVariants.{Run}
 use Rattle.sb_commands.specs.declared.works.Work.{Work}
 use Rattle.sb_commands.specs.declared.works.Work.TheVariants.{Plain, Threaded}
 use Rattle.sb_outside.specs.Outside.{GrowsBy}
@@ -15,10 +15,11 @@ use Rattle.sb_transcript.specs.Lengths.{most_transcript_bytes}
 use Rattle.sb_plain.specs.Audit.{answered_end, audit_end, yes_line}
 use Rattle.sb_plain.specs.Effects.{Effect}
 use Rattle.sb_plain.specs.Endings.{IsEnding}
-use Rattle.sb_plain.specs.Ends.{AreContents, Contents, End, IsOrderOf, ScriptRun, report_of}
+use Rattle.sb_plain.specs.Contents.{Contents}
+use Rattle.sb_plain.specs.Ends.{AreContents, End, IsOrderOf, ScriptRun, report_of}
 use Rattle.sb_plain.specs.Replay.{replay_end}
 use Rattle.sb_plain.specs.declared.outcomes.Outcome.{Outcome}
-use Rattle.sb_plain.specs.declared.outcomes.Status.TheVariants.{Done}
+use Rattle.sb_message.specs.declared.statuses.Status.TheVariants.{Done}
 use Rattle.sb_top.specs.Run.{threads_end}
 use Rattle.sb_top.specs.Top.{meaning_of}
 
@@ -41,24 +42,19 @@ pub record IsAuditedAs (contents : Contents) (text : List ℕ) (run : ScriptRun)
 
 -- so it is of what `replay` writes if it is done and this is its report
 abbrev pub ReplaysAreAudited : Report → Type 0
-ReplaysAreAudited report = (contents : Contents) (end : End) (text : List ℕ) → replay_end contents ≡ Ok end → end.text ≡ Ok text → report_of end ≡ Some report
+ReplaysAreAudited report = (contents : Contents) (end : End) (text : List ℕ) → replay_end contents ≡ Ok end → end.text ≡ Some text → report_of end ≡ Some report
     → IsSomeAnd end.run (IsAuditedAs contents text)
 
 -- and of what `run` writes, whatever the order of the steps was
 abbrev pub ThreadedRunsAreAudited : Report → Type 0
 ThreadedRunsAreAudited report = (order : Schedule) (contents : Contents) (end : End) (text : List ℕ) → threads_end order contents ≡ Ok end → IsOrderOf order end
-    → end.text ≡ Ok text → report_of end ≡ Some report → IsSomeAnd end.run (IsAuditedAs contents text)
+    → end.text ≡ Some text → report_of end ≡ Some report → IsSomeAnd end.run (IsAuditedAs contents text)
 
 -- a command that writes the transcript of its run
 abbrev pub writes_transcript : Work → Bool
 writes_transcript (Plain Replay) = true
-writes_transcript (Plain Check) = false
-writes_transcript (Plain Linked) = false
-writes_transcript (Plain Dup) = false
-writes_transcript (Plain Local) = false
-writes_transcript (Plain Audit) = false
 writes_transcript (Threaded Run) = true
-writes_transcript (Threaded Make) = false
+writes_transcript work = false
 
 -- What a call wrote over files of these names is a transcript that is not too long for an audit, and `audit` over the same policies and script says yes,
 -- with the numbers of entries and results of the report

@@ -3,7 +3,6 @@ pub mod Run
 pub mod Totals
 pub mod Make
 pub mod Top
-pub mod Exits
 pub mod Laws
 pub mod Orders
 pub mod Sound

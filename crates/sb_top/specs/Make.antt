@@ -8,12 +8,12 @@ use Rattle.sb_gen.specs.Scripts.{script_of}
 use Rattle.sb_rule.specs.declared.policies.Policy.{Policy}
 use Rattle.sb_ruletext.specs.PolicyTexts.{PolicyFault, reading}
 use Rattle.sb_statements.specs.declared.schedules.Schedule.{Schedule}
-use Rattle.sb_plain.specs.Coming.{ReportedEnd, reported}
-use Rattle.sb_plain.specs.Contents.{Refusal, refused}
-use Rattle.sb_plain.specs.Ends.{Contents, End, IsOrderOf, ScriptRun}
+use Rattle.sb_message.specs.declared.statuses.EndStatus.TheVariants.{Done}
+use Rattle.sb_plain.specs.Contents.{Contents, ShownRefusal, missing}
+use Rattle.sb_plain.specs.Ends.{End, IsOrderOf, ScriptRun}
+use Rattle.sb_plain.specs.Readings.{ReportedEnd, reported}
 use Rattle.sb_plain.specs.Replay.{whole_run}
 use Rattle.sb_top.specs.Totals.{totals_by}
-use Rattle.sb_plain.specs.declared.outcomes.Status.TheVariants.{Missing}
 
 -- the policies of a text without a fault
 abbrev pub policies_or_none : Result (List Policy) PolicyFault → List Policy
@@ -48,7 +48,7 @@ made_run seed targets calls order = record {
 -- the two lines are written
 abbrev pub made_end : ℕ → ℕ → ℕ → Schedule → End
 made_end seed targets calls order =
-    record { text = Ok (made_text seed targets calls); run = Some (made_run seed targets calls order); noted = None }
+    record { text = Some (made_text seed targets calls); status = Done; run = Some (made_run seed targets calls order); notes = None }
 
 -- this is the end of a run of the script that is made, by some order of steps
 pub record IsMadeEnd (seed targets calls : ℕ) (end : ReportedEnd) : Type 0 where
@@ -57,6 +57,6 @@ pub record IsMadeEnd (seed targets calls : ℕ) (end : ReportedEnd) : Type 0 whe
   pub is : end ≡ reported (made_end seed targets calls order)
 
 -- a script is made and run by this order of steps
-abbrev pub make_end : ℕ → ℕ → ℕ → Schedule → Contents → Result End Refusal
+abbrev pub make_end : ℕ → ℕ → ℕ → Schedule → Contents → Result End ShownRefusal
 make_end seed targets calls order [] = Ok (made_end seed targets calls order)
-make_end seed targets calls order _ = Err (refused (Missing 1))
+make_end seed targets calls order _ = Err (missing 1)

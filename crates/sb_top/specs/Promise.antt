@@ -12,7 +12,7 @@ use Rattle.sb_call.specs.declared.tags.CallTag.{CallTag}
 use Rattle.sb_commands.specs.Commands.{Command, plain_files, threaded_files}
 use Rattle.sb_commands.specs.NumberWords.{number_of}
 use Rattle.sb_commands.specs.Usage.{Fault, Values}
-use Rattle.sb_commands.specs.declared.works.PlainWork.TheVariants.{Audit, Check, Dup, Linked, Local, Replay}
+use Rattle.sb_commands.specs.declared.works.PlainWork.TheVariants.{Dup, Linked, Local, Replay}
 use Rattle.sb_commands.specs.declared.works.ThreadedWork.TheVariants.{Make, Run}
 use Rattle.sb_commands.specs.declared.works.Work.{Work}
 use Rattle.sb_commands.specs.declared.works.Work.TheVariants.{Plain, Threaded}
@@ -32,15 +32,14 @@ use Rattle.sb_rule.specs.declared.policies.Policy.{Policy}
 use Rattle.sb_statements.specs.declared.schedules.Schedule.{Schedule}
 use Rattle.sb_statements.specs.declared.scripts.Script.{Script}
 use Rattle.sb_transcript.specs.Totals.{totals_line}
-use Rattle.sb_plain.specs.Contents.{Content, no_schedule, policies_in, script_in}
+use Rattle.sb_plain.specs.Contents.{Content, Contents, alone, no_schedule, policies_in, script_in}
 use Rattle.sb_plain.specs.Dup.{answers_after, moves_in}
 use Rattle.sb_plain.specs.Effects.{Effect}
-use Rattle.sb_plain.specs.Ends.{AreContents, Contents}
+use Rattle.sb_plain.specs.Ends.{AreContents}
 use Rattle.sb_plain.specs.Linked.{links_in}
 use Rattle.sb_plain.specs.Replay.{schedule_of}
-use Rattle.sb_plain.specs.ScriptEnds.{third_by}
 use Rattle.sb_plain.specs.declared.outcomes.Outcome.{Outcome}
-use Rattle.sb_plain.specs.declared.outcomes.Status.TheVariants.{Done}
+use Rattle.sb_message.specs.declared.statuses.Status.TheVariants.{Done}
 use Rattle.sb_top.specs.Make.{made_line, made_policies}
 use Rattle.sb_top.specs.PromisedRuns.{IsPromisedRun, IsTranscript, policy_for}
 use Rattle.sb_top.specs.Top.{EndsAsMeant}
@@ -132,7 +131,7 @@ module _ {G S : Type 0} where
     pub rest : Contents
     pub opened : AreOpened contents policies script rest
     pub moves : List Move
-    pub moves_read : third_by (moves_in script) rest ≡ Ok moves
+    pub moves_read : alone 3 (moves_in script) rest ≡ Ok moves
     pub schedule : Schedule
     pub default : schedule ≡ no_schedule
     pub report : Report
@@ -152,7 +151,7 @@ module _ {G S : Type 0} where
     pub rest : Contents
     pub opened : AreOpened contents policies script rest
     pub links : List Link
-    pub links_read : third_by links_in rest ≡ Ok links
+    pub links_read : alone 3 links_in rest ≡ Ok links
     pub log : IsLogOf links 0 (script_answered policies script links).history.entries (asked_by script) (script_answered policies script links).log
     pub performed : (n : ℕ) (entry : Entry) (tag : CallTag) (line : ℕ) (action : Action) (args : List Arg)
         → slice_get (script_answered policies script links).history.entries n ≡ Some entry → entry.decision ≡ Performed tag line action args
@@ -161,7 +160,7 @@ module _ {G S : Type 0} where
 
   -- ---- every command
 
-  -- what is promised of a command that is done, by its work and the values of its arguments. `check` and `audit` decide no call
+  -- what is promised of a command that is done, by its work and the values of its arguments. The others decide no call
   abbrev pub IsAsPromised : Work → Values → Effect G S → Outcome → Type 0
   IsAsPromised (Plain Replay) values e o = IsReplayAsPromised (plain_files Replay values) e o
   IsAsPromised (Threaded Run) values e o = IsThreadedRunAsPromised (threaded_files Run values) e o
@@ -169,8 +168,7 @@ module _ {G S : Type 0} where
   IsAsPromised (Plain Local) values e o = IsLocalAsPromised (plain_files Local values) e o
   IsAsPromised (Plain Dup) values e o = IsDupAsPromised (plain_files Dup values) e o
   IsAsPromised (Plain Linked) values e o = IsLinkedAsPromised (plain_files Linked values) e o
-  IsAsPromised (Plain Check) values e o = ⊤
-  IsAsPromised (Plain Audit) values e o = ⊤
+  IsAsPromised work values e o = ⊤
 
 -- arguments with which the program is done are a command, and it is as promised
 abbrev pub PromiseIsKept : Type 0 → Type 0 → Type 0

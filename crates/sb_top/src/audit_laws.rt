@@ -31,7 +31,7 @@ fn establish_report(report: &Option<Report>)
 /// What `replay` or `run` wrote, if it ended with this outcome and that is Done, is a transcript of at most 536,870,912 bytes, and `audit` says yes to it over
 /// the same policies and script, with the numbers of entries and results of the outcome's report. Nothing else is asked than what `broker_top` says of the
 /// outcome.
-pub fn outcomes_are_audited<G, S>(outcome: &Outcome)
+pub fn outcomes_are_audited<G, S>(outcome: &Outcome<'_>)
     ensures { OutcomesAreAudited G S outcome.now }
 {
     establish_report(&outcome.report);

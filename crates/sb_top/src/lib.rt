@@ -2,21 +2,17 @@
 #![tactic(auto)]
 
 mod audit_laws;
-mod exits;
 mod laws;
 mod make;
-mod messages;
 mod promise;
 mod run;
 mod threads;
 mod top;
 
 pub use audit_laws::{outcomes_are_audited, replays_are_audited};
-pub use exits::{Complaint, exit_code};
 pub use laws::{
     orders_are_replayed, refusals_are_meant, reports_are_sound, runs_are_sound,
     statuses_are_of_commands, totals_are_of_verdicts, work_comes_to_its_end,
 };
-pub use messages::message;
 pub use promise::promise_is_kept;
 pub use top::{broker_top, plain_top, threads_top};

@@ -3,7 +3,7 @@ use Rattle.clap.specs.Words.{app_of}
 use Rattle.sb_commands.specs.Commands.{HasValues}
 use Rattle.sb_commands.specs.Forms.{form_of}
 use Rattle.sb_commands.specs.Usage.{texts}
-use Rattle.sb_commands.proofs.TakenWords.{words_are_read, words_are_taken}
+use Rattle.sb_commands.proofs.TakenWords.{words_are_read}
 use Rattle.sb_commands.proofs.commands.read_values.Goals as goal
 
 -- the values are found
@@ -11,9 +11,3 @@ pub returns-in-Ok : goal.returns-in-Ok
 returns-in-Ok c =
     subst (HasValues (form_of c.args.form) (texts c.args.words.now)) (sym c.found_values.ensures)
     (words_are_read (app_of c.into_command.result) (form_of c.args.form) (texts c.args.words.now) c.in-Ok.values (c.into_command.ensures ∙ c.in_ok-line.ensures) c.requires c.in-Ok.ensures.matches)
-
--- the only refusal is that memory ran out
-pub unreachable-requires : goal.unreachable-requires
-unreachable-requires c =
-    c.in_default.not-OutOfMemory
-    (c.kind.ensures ∙ c.in-Err.ensures.passes (words_are_taken (app_of c.into_command.result) (form_of c.args.form) (texts c.args.words.now) (c.into_command.ensures ∙ c.in_ok-line.ensures) c.requires))

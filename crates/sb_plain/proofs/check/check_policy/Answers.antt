@@ -1,33 +1,22 @@
-use Rattle.std.proofs.Common.{◌∷◌, [], sym, subst}
-use Rattle.std.specs.Prelude.{Result, Some}
-use Rattle.sb_outside.specs.Outside.{Rose}
-use Rattle.sb_plain.specs.Check.{check_end, printed_end}
-use Rattle.sb_plain.specs.Coming.{IsEndCaused, IsFound, ReportedEnd}
-use Rattle.sb_plain.specs.Contents.{Refusal}
-use Rattle.sb_plain.proofs.KeptFiles.{handed_on, made_of, refused_end}
-use Rattle.sb_plain.proofs.Carrying.{end_caused}
-use Rattle.sb_plain.proofs.Checking.{check_made, check_unread}
+use Rattle.std.proofs.Common.{◌≡◌, refl, inr, sym, subst, rules}
+use Rattle.std.specs.Prelude.{IfErr, Result, Err}
+use Rattle.sb_message.specs.declared.statuses.Refusal.TheVariants.{NoMemory}
+use Rattle.sb_plain.specs.Check.{check_text, printed_end}
+use Rattle.sb_plain.specs.Contents.{ShownRefusal, refused}
+use Rattle.sb_plain.specs.Readings.{GivesEnd, IsOfText, ReportedEnd, reported}
+use Rattle.sb_plain.proofs.Checking.{text_printed, text_refused}
+use Rattle.sb_plain.proofs.KeptFiles.{handed_on}
 use Rattle.sb_plain.proofs.check.check_policy.Goals as goal
 
-pub returns-in_err-noted-clause-found : goal.returns-in_err-noted-clause-found
-returns-in_err-noted-clause-found g c =
-    let held = g.F.Files.held c.args.files.now in
-    let P : Result ReportedEnd Refusal → Type 0 = IsFound check_end (c.args.policy.now ∷ []) held in
-    handed_on P c.from_residual.result c.in_err-noted.field-0.0 c.from_residual.ensures.1 (check_unread held c.args.policy.now c.in_err-noted.field-0.0 c.in_err-noted.ensures.read)
+pub returns-in_err-text-clause-given : goal.returns-in_err-text-clause-given
+returns-in_err-text-clause-given c =
+    handed_on (GivesEnd (check_text c.args.text)) c.from_residual.result c.in_err-text.field-0.0 c.from_residual.ensures.1
+    (text_refused c.args.text c.in_err-text.field-0.0 c.in_err-text.ensures.policies)
 
-pub returns-clause-found : goal.returns-clause-found
-returns-clause-found g c =
-    let held = g.F.Files.held c.args.files.now in
-    let P : Result ReportedEnd Refusal → Type 0 = IsFound check_end (c.args.policy.now ∷ []) held in
-    subst P (sym c.end_or_refusal.ensures)
-    (check_made held c.args.policy.now (Some c.in_ok-noted.noted.0, c.in_ok-noted.noted.1.list) c.end_of_check.result c.in_ok-noted.ensures.read c.end_of_check.ensures)
+pub returns-in_err-text-clause-refused : goal.returns-in_err-text-clause-refused
+returns-in_err-text-clause-refused c =
+    handed_on (λ (r : Result ReportedEnd ShownRefusal). IfErr r (λ refusal. IsOfText refusal.why)) c.from_residual.result c.in_err-text.field-0.0 c.from_residual.ensures.1
+    c.in_err-text.ensures.refused
 
-pub returns-in_err-noted-clause-files : goal.returns-in_err-noted-clause-files
-returns-in_err-noted-clause-files g c = refused_end c.from_residual.result c.in_err-noted.field-0.0 c.from_residual.ensures.1 c.in_err-noted.ensures.files
-
-pub returns-clause-files : goal.returns-clause-files
-returns-clause-files g c =
-    let held = g.F.Files.held c.args.files.now in
-    let rose = Rose (g.F.Files.faults c.args.files.now) (g.F.Files.faults c.noted_policies_in.new.files) in
-    made_of IsEndCaused c.in_ok-noted.noted c.end_or_refusal.result c.in_ok-noted.ensures.files
-    (subst (IsEndCaused held rose) (sym c.end_or_refusal.ensures) (end_caused held rose (printed_end (Some c.in_ok-noted.noted.0) c.in_ok-noted.noted.1.list) c.end_of_check.result tt c.end_of_check.ensures))
+pub returns-clause-given : goal.returns-clause-given
+returns-clause-given c = text_printed c.args.text c.in_ok-text.policies.list _ c.in_ok-text.ensures.policies (search rules)

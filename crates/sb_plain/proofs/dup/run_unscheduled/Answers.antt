@@ -8,4 +8,4 @@ pub returns-clause-value : goal.returns-clause-value
 unfolding whole_run
 returns-clause-value c =
     let P : Schedule → Type 0 = λ s. IfOk c.run.result (λ r. r ≡ whole_run c.args.start.policies c.args.start.script s) in
-    subst P c.no_schedule.ensures.value c.run.ensures.value
+    subst P c.no_schedule.ensures c.run.ensures.value

@@ -1,6 +1,6 @@
 use Rattle.std.proofs.Common.{◌∙◌, subst, sym}
 use Rattle.sb_outside.specs.Outside.{joined}
-use Rattle.sb_plain.specs.Coming.{ReportedEnd}
+use Rattle.sb_plain.specs.Readings.{ReportedEnd}
 use Rattle.sb_top.specs.Make.{IsMadeEnd}
 use Rattle.sb_top.proofs.Made.{made_end_of}
 use Rattle.sb_top.proofs.make.make_script.Goals as goal

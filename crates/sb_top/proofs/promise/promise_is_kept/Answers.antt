@@ -18,6 +18,7 @@ returns g c =
       follow = c.results_follow.ensures;
       last = c.totals_end.ensures;
       thin_ready = c.thinned_scripts_are_sound.ensures.ready;
+      actors = c.thinned_scripts_are_sound.ensures.actors;
       logs = c.logs_are_of_answers.ensures;
       resolved = c.script_calls_are_resolved.ensures.performed;
       links = c.read_links_are_links.ensures;

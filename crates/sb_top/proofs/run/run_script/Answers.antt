@@ -1,52 +1,19 @@
-use Rattle.std.proofs.Common.{◌∷◌, [], refl}
-use Rattle.std.specs.Prelude.{Result, Ok}
-use Rattle.sb_outside.specs.Outside.{Rose}
-use Rattle.sb_plain.specs.Coming.{IsEndCaused, IsFoundOnThreads, ReportedEnd}
-use Rattle.sb_plain.specs.Contents.{Refusal, no_schedule, refused}
-use Rattle.sb_plain.specs.Ends.{OnThreads}
-use Rattle.sb_top.specs.Run.{nothing_after, ordered_end, threads_end}
-use Rattle.sb_plain.specs.declared.outcomes.Status.TheVariants.{NoMemory}
-use Rattle.sb_plain.proofs.Carrying.{on_threads, starved}
-use Rattle.sb_plain.proofs.KeptFiles.{handed_on, made_of, refused_end}
-use Rattle.sb_top.proofs.Running.{run_caused, run_done}
-use Rattle.sb_plain.proofs.ScriptEnds.{unopened}
+use Rattle.std.proofs.Common.{◌≡◌, ◌∙◌, subst, rules, None}
+use Rattle.std.specs.Prelude.{IfOk}
+use Rattle.sb_book.specs.ReadyScripts.{Ready}
+use Rattle.sb_core.specs.Runs.{IsSomeRun}
+use Rattle.sb_statements.specs.declared.scripts.Script.{Script}
+use Rattle.sb_plain.specs.Readings.{reported_run}
+use Rattle.sb_top.proofs.ThreadEnds.{are_threads_ends}
 use Rattle.sb_top.proofs.run.run_script.Goals as goal
 
-pub returns-in_err-opened-clause-found : goal.returns-in_err-opened-clause-found
-returns-in_err-opened-clause-found g c =
-    let held = g.F.Files.held c.args.files.now in
-    let names = c.args.policy.now ∷ c.args.script.now ∷ [] in
-    let refusal = c.in_err-opened.field-0.0 in
-    let P : Result ReportedEnd Refusal → Type 0 = IsFoundOnThreads threads_end names held in
-    handed_on P c.from_residual.result refusal c.from_residual.ensures.1 (on_threads threads_end names held refusal
-    (unopened nothing_after (ordered_end no_schedule) held c.args.policy.now c.args.script.now [] refusal c.in_err-opened.ensures.opened))
-
-pub returns-in_err-run_opened-clause-found : goal.returns-in_err-run_opened-clause-found
-returns-in_err-run_opened-clause-found g c =
-    let held = g.F.Files.held c.args.files.now in
-    let names = c.args.policy.now ∷ c.args.script.now ∷ [] in
-    let P : Result ReportedEnd Refusal → Type 0 = IsFoundOnThreads threads_end names held in
-    handed_on P c.from_residual-in_err-run_opened.result (refused NoMemory) c.from_residual-in_err-run_opened.ensures.1 (starved (OnThreads threads_end) names held (refused NoMemory) refl)
-
-pub returns-clause-found : goal.returns-clause-found
-returns-clause-found g c =
-    run_done (g.F.Files.held c.args.files.now) c.args.policy.now c.args.script.now c.in_ok-opened.opened c.in_ok-run_opened.field-0 c.in_ok-opened.ensures.opened
-    c.in_ok-run_opened.ensures
-
-pub returns-in_err-opened-clause-files : goal.returns-in_err-opened-clause-files
-returns-in_err-opened-clause-files g c = refused_end c.from_residual.result c.in_err-opened.field-0.0 c.from_residual.ensures.1 c.in_err-opened.ensures.files
-
-pub returns-in_err-run_opened-clause-files : goal.returns-in_err-run_opened-clause-files
-returns-in_err-run_opened-clause-files g c =
-    let held = g.F.Files.held c.args.files.now in
-    let rose = Rose (g.F.Files.faults c.args.files.now) (g.F.Files.faults c.opened_in.new.files) in
-    let result = c.from_residual-in_err-run_opened.result in
-    made_of IsEndCaused c.in_ok-opened.opened result c.in_ok-opened.ensures.files
-    (handed_on (IsEndCaused held rose) result (refused NoMemory) c.from_residual-in_err-run_opened.ensures.1 tt)
-
-pub returns-clause-files : goal.returns-clause-files
-returns-clause-files g c =
-    let held = g.F.Files.held c.args.files.now in
-    let rose = Rose (g.F.Files.faults c.args.files.now) (g.F.Files.faults c.opened_in.new.files) in
-    made_of IsEndCaused c.in_ok-opened.opened (Ok c.in_ok-run_opened.field-0) c.in_ok-opened.ensures.files
-    (run_caused held rose c.in_ok-opened.opened.policies c.in_ok-opened.opened.script c.in_ok-run_opened.field-0 c.in_ok-run_opened.ensures)
+pub returns : goal.returns
+returns g c =
+    let report = c.in_ok-report.report in
+    let script = c.args.opened.script in
+    let P : Ready → Type 0 = λ z. IsSomeRun z.policies z.script report in
+    let some : P c.args.opened = subst P (c.of.ensures ∙ c.into_parts-ready.ensures.ready) c.in_ok-report.ensures.report in
+    let same : c.deref.result.now ≡ script = search rules in
+    let Q : Script → Type 0 = λ s. IfOk c.end_of_run.result (λ end. end ≡ reported_run s (record { report = report; unfinished = None })) in
+    let ended : Q script = subst Q same c.end_of_run.ensures in
+    are_threads_ends c.args.opened.policies script report c.end_of_run.result some ended
