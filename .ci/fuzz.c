@@ -1,5 +1,6 @@
 /* Calls of all functions of the library with random numbers, at any time: fuzz CALLS [SEED]. Each call that is refused has to change nothing, and no call may
- * read or write outside what it was given, which the address sanitizer sees. Every third allocation of the library fails (link with `-Wl,--wrap=malloc`). */
+ * read or write outside what it was given, which the address sanitizer sees. Every third allocation of the library fails (link with `-Wl,--wrap=malloc,--wrap=realloc`), and
+ * no call may say that there is no memory if none of its own did. */
 #include <inttypes.h>
 #include <stdio.h>
 #include <stdlib.h>
@@ -9,13 +10,25 @@
 
 void *__real_malloc(size_t size);
 void *__wrap_malloc(size_t size);
+void *__real_realloc(void *at, size_t size);
+void *__wrap_realloc(void *at, size_t size);
 
 static uint64_t state;
-static uint64_t allocations;
+static uint64_t allocations, failed;
 static int failing;
 
+static int is_to_fail(void) {
+    int fails = failing && ++allocations % 3 == 0;
+    failed += (uint64_t)fails;
+    return fails;
+}
+
 void *__wrap_malloc(size_t size) {
-    return failing && ++allocations % 3 == 0 ? NULL : __real_malloc(size);
+    return is_to_fail() ? NULL : __real_malloc(size);
+}
+
+void *__wrap_realloc(void *at, size_t size) {
+    return is_to_fail() ? NULL : __real_realloc(at, size);
 }
 
 static uint64_t next(void) {
@@ -35,6 +48,19 @@ static void require(int holds, const char *what) {
         fprintf(stderr, "fuzz: %s\n", what);
         exit(1);
     }
+}
+
+/* From here on allocations fail. */
+static void begin(void) {
+    failing = 1;
+    failed = 0;
+}
+
+/* The status of the call that was made since. */
+static uint32_t end(uint32_t status) {
+    failing = 0;
+    require(status != SB_NO_MEMORY || failed, "out of memory although no allocation failed");
+    return status;
 }
 
 /* What is given to a call lies in blocks of exactly its size. */
@@ -70,9 +96,8 @@ static void encode(uint64_t *block, size_t *length) {
     }
     uint64_t *into = room(words * sizeof *into), *old = twin(into, words * sizeof *into);
     size_t written = before;
-    failing = 1;
-    uint32_t status = sb_block_encode(number_below(14), number_below(4), arguments, count, text, units, into, words, &written);
-    failing = 0;
+    begin();
+    uint32_t status = end(sb_block_encode(number_below(14), number_below(4), arguments, count, text, units, into, words, &written));
     require(status == SB_OK || status == SB_BAD_CALL || status == SB_NO_MEMORY || status == SB_NO_ROOM || status == SB_TOO_BIG, "a status of encode");
     if (status == SB_OK) {
         require(written >= 16 && written <= 64 && written <= words, "the length of a block");
@@ -138,9 +163,8 @@ static void literal(void) {
     }
     uint8_t *text = room(bytes), *old = twin(text, bytes);
     size_t written = before;
-    failing = 1;
-    uint32_t status = next() % 2 ? sb_string_literal(units, count, text, bytes, &written) : sb_pattern_literal(units, count, text, bytes, &written);
-    failing = 0;
+    begin();
+    uint32_t status = end(next() % 2 ? sb_string_literal(units, count, text, bytes, &written) : sb_pattern_literal(units, count, text, bytes, &written));
     require(status == SB_OK || status == SB_NO_MEMORY || status == SB_NO_ROOM || status == SB_NO_LITERAL, "a status of a literal");
     require(status == SB_OK ? written <= bytes : written == before && !memcmp(text, old, bytes), "a literal");
     free(units), free(text), free(old);
@@ -166,9 +190,8 @@ static void policies(sb_handle *handle, size_t *count, int *full) {
     switch (next() % 8) {
     case 0: {
         size_t text = next() % 4;
-        failing = 1;
-        status = sb_policies_load(handle, (const uint8_t *)texts[text].text, strlen(texts[text].text), &fault);
-        failing = 0;
+        begin();
+        status = end(sb_policies_load(handle, (const uint8_t *)texts[text].text, strlen(texts[text].text), &fault));
         require(status == SB_OK || status == SB_NO_MEMORY || status == SB_FAULT, "a status of load");
         require(status != SB_OK || texts[text].line == 0, "a text with a fault was loaded");
         require(status != SB_FAULT || (fault.line == texts[text].line && fault.number == texts[text].number), "the fault of a text");
@@ -208,9 +231,8 @@ static void policies(sb_handle *handle, size_t *count, int *full) {
         for (size_t i = 0; i < 4; i++) {
             arguments[i] = (sb_argument){(uint32_t)(next() % 2), (uint32_t)number_below(8), (uint32_t)number_below(4), 0, number_below(4)};
         }
-        failing = 1;
-        status = sb_judge(handle, (uint32_t)number_below(3), number_below(14), arguments, given, units, 8, &verdict);
-        failing = 0;
+        begin();
+        status = end(sb_judge(handle, (uint32_t)number_below(3), number_below(14), arguments, given, units, 8, &verdict));
         require(status == SB_OK || status == SB_BAD_CALL || status == SB_NO_MEMORY, "a status of judge");
         require(status != SB_OK || *count, "a verdict of no policy");
         require(status == SB_OK ? verdict.has_rule <= 1 && verdict.action <= SB_READONLY : verdict.line == 9, "a verdict");
@@ -284,16 +306,48 @@ static void steps(sb_handle *worker) {
     }
 }
 
-static void worker(sb_handle *host, sb_handle *policies, const uint64_t *block, size_t length) {
+/* The arguments that a copy asks for, to the first that is not there. */
+static void asked(sb_handle *host) {
+    sb_argument argument = {9, 9, 9, 9, 9};
+    uint32_t status = SB_OK;
+    for (uint32_t i = 0; i < 12 && (status == SB_OK || status == SB_NO_ROOM); i++) {
+        size_t count = next() % 20;
+        uint16_t *units = room(count * sizeof *units);
+        begin();
+        status = end(sb_worker_asked(host, i, &argument, units, count));
+        require(status == SB_OK || status == SB_NO_MEMORY || status == SB_NO_ROOM || status == SB_BAD_CALL, "a status of what is asked for");
+        require(status != SB_OK || argument.length <= count, "an argument that is asked for");
+        free(units);
+    }
+    require(status != SB_OK, "more than nine arguments");
+}
+
+/* A namespace that is made, freed, or one in which a call is performed. */
+static void namespace(sb_handle *space, sb_handle *host) {
+    uint32_t status;
+    if (next() % 4 == 0) {
+        begin();
+        status = end(sb_space_new(space));
+        require(status == SB_OK || status == SB_NO_MEMORY || (status == SB_BAD_CALL && space->live), "a status of a new namespace");
+    } else if (next() % 64 == 0) {
+        sb_free(space);
+    } else {
+        begin();
+        status = end(sb_worker_perform(host, space, (uint32_t)number_below(3)));
+        require(status == SB_OK || status == SB_NO_MEMORY || status == SB_BAD_CALL, "a status of what is performed");
+        require(status != SB_OK || sb_worker_perform(host, space, 0) == SB_BAD_CALL, "a call that is performed twice");
+    }
+}
+
+static void worker(sb_handle *host, sb_handle *policies, sb_handle *space, const uint64_t *block, size_t length) {
     sb_copy_decision decision = {9, 9, 9, 9, 9, 9, 9};
     uint64_t values[4] = {1, 2, 3, 4};
     uint32_t status;
     size_t written = 0;
     switch (next() % 16) {
     case 0:
-        failing = 1;
-        status = next() % 2 ? sb_worker_new(host, (uint32_t)number_below(10)) : sb_worker_adopt(host, (uint32_t)number_below(10));
-        failing = 0;
+        begin();
+        status = end(next() % 2 ? sb_worker_new(host, (uint32_t)number_below(10)) : sb_worker_adopt(host, (uint32_t)number_below(10)));
         require(status == SB_OK || status == SB_NO_MEMORY || status == SB_BAD_CALL, "a status of a new worker");
         break;
     case 1:
@@ -310,9 +364,8 @@ static void worker(sb_handle *host, sb_handle *policies, const uint64_t *block, 
     case 3:
     case 4:
     case 5: {
-        failing = 1;
-        status = sb_worker_decide(host, policies, (uint32_t)number_below(3), &decision);
-        failing = 0;
+        begin();
+        status = end(sb_worker_decide(host, policies, (uint32_t)number_below(3), &decision));
         require(status == SB_OK || status == SB_NO_MEMORY || status == SB_BAD_CALL, "a status of decide");
         require(status == SB_OK ? decision.outcome <= SB_FAKED && decision.fault <= 10 && decision.arguments <= 9 : decision.outcome == 9, "a decision");
         for (uint32_t i = 0; status == SB_OK && i <= decision.arguments; i++) {
@@ -326,6 +379,12 @@ static void worker(sb_handle *host, sb_handle *policies, const uint64_t *block, 
         }
         break;
     }
+    case 8:
+        asked(host);
+        break;
+    case 9:
+        namespace(space, host);
+        break;
     case 6:
     case 7: {
         sb_host_answer answer = {(uint32_t)next(), (uint32_t)number_below(9), next() % 4, {1, 2, 3, 4, 5, 6, 7}};
@@ -345,7 +404,7 @@ int main(int argc, char **argv) {
     uint64_t block[64];
     size_t length = 0;
     sb_client_call made;
-    sb_handle handle = {0, NULL}, host = {0, NULL};
+    sb_handle handle = {0, NULL}, host = {0, NULL}, space = {0, NULL};
     size_t count = 0;
     int full = 0;
     memset(&made, 0, sizeof made);
@@ -367,13 +426,13 @@ int main(int argc, char **argv) {
         case 4:
         case 5:
         case 6:
-            worker(&host, &handle, block, length);
+            worker(&host, &handle, &space, block, length);
             break;
         default:
             call(&made, block, length);
         }
     }
-    sb_free(&host);
+    sb_free(&host), sb_free(&space);
     require(sb_free(&handle) == (full ? SB_OK : SB_BAD_CALL) && sb_free(&handle) == SB_BAD_CALL, "the last free");
     printf("%" PRIu64 " calls\n", calls);
     return 0;

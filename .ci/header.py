@@ -1,6 +1,8 @@
 #!/usr/bin/env python3
 """Compares include/sandbox_broker.h with the exports of crates/sb_c: each function with the types of its parameters and of its result, each struct with its
-fields, in order, and each status with its number. `Global` has no bytes, so C passes nothing for it. A slice is a pointer and a `size_t`."""
+fields, in order, and each number of a status, an action, a call and a fault. `Global` has no bytes, so C passes nothing for it. A slice is a pointer and a
+`size_t`. Then it tries itself: a header in which one type of a function or of a field, or one number, is another, or in which a function is missing, has to
+differ."""
 import glob
 import os
 import re
@@ -97,26 +99,68 @@ def fields_of_header(header):
     return found
 
 
-def statuses(text, pattern):
-    """Each status by its name in C, with its number."""
-    return {"SB_" + re.sub(r"(?<=[a-z])(?=[A-Z])", "_", name).upper().removeprefix("SB_"): number for name, number in re.findall(pattern, text)}
+def snake(name):
+    """The name of a variant as C has it."""
+    return re.sub(r"(?<=[a-z0-9])(?=[A-Z])", "_", name).upper()
 
 
-def main():
-    header = plain(open(os.path.join(TOP, "include/sandbox_broker.h")).read())
+def numbers_of_rattle():
+    """Each number that crosses, by its name in C."""
+    found = {}
+    for prefix, path, pattern in (
+        ("SB_", "sb_c/src/statuses.rt", r"(?m)^    (\w+) = (\d+),$"),
+        ("SB_", "sb_call/src/tags.rt", r"(?m)^    (\w+) = (\d+),$"),
+        ("SB_", "sb_rule/src/actions.rt", r"(?m)^    (\w+) = (\d+),$"),
+        ("SB_COPY_", "sb_c/src/blocks.rt", r"BlockFault::(\w+)(?:\([^)]*\))? => shown\((\d+),"),
+        ("SB_TEXT_", "sb_ruletext/src/faults.rt", r"PolicyFaultKind::(\w+)(?:\([^)]*\))?(?: \| [^=]*)? => (\d+),"),
+    ):
+        text = plain(open(os.path.join(TOP, "crates", path)).read())
+        found.update({prefix + snake(name): number for name, number in re.findall(pattern, text)})
+    found["SB_READONLY"] = found.pop("SB_READ_ONLY")
+    return found
+
+
+def numbers_of_header(header):
+    """The same of the header."""
+    enums = re.findall(r"enum sb_(?:status|call_number|action|copy_fault_number|text_fault_number) \{.*?\}", header, re.S)
+    return dict(re.findall(r"(SB_\w+) = (\d+)", " ".join(enums)))
+
+
+def differences(header):
+    """What the header has otherwise than the sources."""
     wrong = []
-    rattle = plain(open(os.path.join(TOP, "crates/sb_c/src/statuses.rt")).read())
-    ours_and_theirs = (
+    for what, ours, theirs in (
         ("function", exports(), prototypes(header)),
         ("struct", fields_of_rattle(), fields_of_header(header)),
-        ("status", statuses(rattle, r"(?m)^    (\w+) = (\d+),$"), statuses(re.search(r"enum sb_status \{.*?\}", header, re.S)[0], r"(SB_\w+) = (\d+)")),
-    )
-    for what, ours, theirs in ours_and_theirs:
+        ("number", numbers_of_rattle(), numbers_of_header(header)),
+    ):
         if not ours:
             wrong.append(f"no {what} of crates/sb_c was found")
         for name in sorted(ours.keys() | theirs.keys()):
             if ours.get(name) != theirs.get(name):
                 wrong.append(f"{what} {name}: crates/sb_c has {ours.get(name)}, the header has {theirs.get(name)}")
+    return wrong
+
+
+# headers that have to differ: a piece of the header, and what it becomes
+TRIES = (
+    ("uint32_t channels);", "uint64_t channels);"),
+    ("size_t *word_count);", "uint32_t *word_count);"),
+    ("    uint32_t line;\n    uint32_t column;", "    uint64_t line;\n    uint32_t column;"),
+    ("uint32_t sb_free(sb_handle *handle);", ""),
+    ("SB_NO_ROOM = 4", "SB_NO_ROOM = 5"),
+)
+
+
+def main():
+    with open(os.path.join(TOP, "include/sandbox_broker.h"), encoding="utf-8") as file:
+        header = plain(file.read())
+    wrong = differences(header)
+    for old, new in TRIES:
+        if old not in header:
+            wrong.append(f"there is no {old!r} to be tried")
+        elif not differences(header.replace(old, new, 1)):
+            wrong.append(f"{old!r} as {new!r} is not seen")
     for line in wrong:
         print(f"include/sandbox_broker.h: {line}", file=sys.stderr)
     sys.exit(1 if wrong else 0)

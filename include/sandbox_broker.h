@@ -1,12 +1,14 @@
 /* The library for brokers in C, C++ and Rust: policies and their verdicts, the worker of a target and the caller's side of a call on memory that the other
- * side may overwrite at any time, the check of a copy that is not trusted, the block of a call, and the texts of literals in policies.
+ * side may overwrite at any time, the check of a copy that is not trusted, the block of a call, and the texts of literals in policies. docs/LIBRARY.md shows
+ * how a broker is built on it.
  *
  * What is proved of these functions is what the comments say, for any numbers. What nothing checks is C's part:
  *
  * - Pointers are not null, also for length 0, lengths are right, and what one call is given does not overlap.
  * - The caller makes each step as planned: one atomic, sequentially consistent load, store or compare-exchange of that 64-bit word of that channel,
  *   once, and tells what that step found. It stores nothing else into the channels.
- * - A handle is not copied while it holds something, only functions of this library change it, and one call at a time is given it, all on one thread.
+ * - A handle is not copied while it holds something, only functions of this library change it, and one call at a time is given it.
+ * - The host performs what was granted, with these arguments, and nothing else. Its declarations are those of this header.
  * - `malloc`, `realloc` and `free` are those of one allocator, and no function that allocates is called in a signal handler, or in the child of a fork
  *   of a process with threads.
  *
@@ -43,6 +45,52 @@ enum sb_call_kind { SB_NOT_ENDED = 0, SB_REPLY = 1, SB_FOREIGN = 2, SB_NO_CHANNE
 
 enum sb_action { SB_ALLOW = 0, SB_DENY = 1, SB_ALARM = 2, SB_FAKE = 3, SB_READONLY = 4 };
 
+/* The calls, with their parameters. */
+enum sb_call_number {
+    SB_PING = 1,         /* a number, a text */
+    SB_FILE_CREATE = 2,  /* a name, attributes, access, sharing, disposition, options */
+    SB_FILE_OPEN = 3,    /* a name, access, sharing, options */
+    SB_FILE_QUERY = 4,   /* a name */
+    SB_FILE_RENAME = 5,  /* a name, the new name */
+    SB_PIPE_CREATE = 6,  /* a name, mode, form, instances */
+    SB_KEY_CREATE = 7,   /* a name, access */
+    SB_KEY_OPEN = 8,     /* a name, access */
+    SB_EVENT_CREATE = 9, /* a name, kind, initial state */
+    SB_EVENT_OPEN = 10,  /* a name, access */
+    SB_HANDLE_CLOSE = 11 /* a handle */
+};
+
+/* The faults of a copy, and their values. Parameters are counted from 0. */
+enum sb_copy_fault_number {
+    SB_COPY_TOO_MANY_PARAMS = 1, /* the count that was loaded is above 9: the count */
+    SB_COPY_BAD_END = 2,         /* the end that was loaded lies within the parameters, or above 64: the end */
+    SB_COPY_COUNT_CHANGED = 3,   /* the copy has another count: that loaded before, that in the copy */
+    SB_COPY_END_CHANGED = 4,     /* the copy has another end: that loaded before, that in the copy */
+    SB_COPY_BAD_PARAM_TYPE = 5,  /* no string, number or handle: the parameter */
+    SB_COPY_BAD_PLACE = 6,       /* begins within the parameters, or reaches past the end: the parameter */
+    SB_COPY_UNKNOWN_TAG = 7,     /* no call has this number: the number */
+    SB_COPY_WRONG_SHAPE = 8,     /* the parameters are not those of the call */
+    SB_COPY_BAD_SIZE = 9,        /* a string of an odd size, a number not of 4 bytes, a handle not of 8: the parameter */
+    SB_COPY_BAD_NAME = 10        /* no name: the parameter */
+};
+
+/* The faults of a policy text. */
+enum sb_text_fault_number {
+    SB_TEXT_NOT_UTF8 = 1,
+    SB_TEXT_BAD_VERSION = 2,   /* the first line is neither `sandbox-policy 1` nor `sandbox-policy 2` */
+    SB_TEXT_UNKNOWN_WORD = 3,  /* a word that may not stand there; a missing, broken or extra one */
+    SB_TEXT_UNKNOWN_CALL = 4,  /* no call has this name */
+    SB_TEXT_UNKNOWN_PARAM = 5, /* the call has no parameter of this name */
+    SB_TEXT_WRONG_KIND = 6,    /* the test or its value does not fit the parameter */
+    SB_TEXT_BAD_NUMBER = 7,    /* no number below 2^64, or no two of them joined by `..` */
+    SB_TEXT_EMPTY_RANGE = 8,
+    SB_TEXT_BAD_PATTERN = 9,   /* `**` or `*?`, or a string of more than 256 units */
+    SB_TEXT_TOO_MANY = 10,     /* more than 8 policies, 256 rules of one, 8 conditions of a rule, or 16 numbers of a condition */
+    SB_TEXT_SAME_NAME = 11,    /* an earlier policy has this name */
+    SB_TEXT_NO_HEADING = 12,   /* a rule or a grant before the first policy */
+    SB_TEXT_NOT_READ_ONLY = 13 /* `readonly` of a call other than file.open, key.open and event.open */
+};
+
 /* How many words a channel has: its state, and the 64 words of a block. */
 #define SB_CHANNEL_WORDS 65
 
@@ -58,8 +106,8 @@ typedef struct sb_argument {
     uint64_t number;
 } sb_argument;
 
-/* What the library keeps on the heap for the caller. Zeros hold nothing, so `sb_handle h = {0};` is valid, and so is a handle that was freed. The fields
- * are for the library. */
+/* What the library keeps on the heap for the caller: policies, a worker, or a namespace. Zeros hold nothing, so `sb_handle h = {0};` is valid, and so is a
+ * handle that was freed. The fields are for the library. */
 typedef struct sb_handle {
     uint64_t live;
     void *at;
@@ -203,9 +251,24 @@ uint32_t sb_worker_decide(sb_handle *worker, sb_handle *policies, uint32_t polic
  * the handle holds no worker, or it grants fewer arguments; SB_NO_ROOM exactly if the string has more than `room` units. Does not allocate. */
 uint32_t sb_worker_argument(sb_handle *worker, uint32_t number, sb_argument *argument, uint16_t *units, size_t room);
 
+/* Writes the argument with this number, from 0, of the call that the copy to answer asks for, whatever is decided of it. IT IS FOR LOGS, AND MUST NEVER BE
+ * PERFORMED: `readonly` grants less than was asked for. A host that reads the words of the channel again sees what the target stored since. SB_BAD_CALL exactly
+ * if there is no worker whose next step is SB_ANSWER, the copy has a fault, or its call has fewer arguments; SB_NO_ROOM as for an argument that is granted.
+ * SB_NO_MEMORY only if the copy asks for a call. */
+uint32_t sb_worker_asked(sb_handle *worker, uint32_t number, sb_argument *argument, uint16_t *units, size_t room);
+
 /* Goes on from SB_ANSWER by the reply to what was decided: the host's answer if the call is performed, and else what the decision says, whatever the host
  * answers. SB_BAD_CALL exactly if there is no worker whose next step is SB_ANSWER, or nothing is decided. Does not allocate. */
 uint32_t sb_worker_reply(sb_handle *worker, const sb_host_answer *answer);
+
+/* Puts a namespace of the product's own into a handle that holds nothing: no file, pipe, key or event is in it. SB_BAD_CALL exactly if the handle holds
+ * something. */
+uint32_t sb_space_new(sb_handle *space);
+
+/* Performs what was decided in a namespace, for the target with this number, and goes on from SB_ANSWER by its reply, in place of `sb_worker_reply`.
+ * SB_BAD_CALL exactly if there is no worker whose next step is SB_ANSWER, nothing is decided, or the other handle holds no namespace. SB_NO_MEMORY only for
+ * a call that grants a handle or renames. */
+uint32_t sb_worker_perform(sb_handle *worker, sb_handle *space, uint32_t target);
 
 /* Looks for the first fault of a copy, before which this count and this end were loaded. THE WORDS ARE A COPY THAT NOBODY WRITES, never the channel.
  * SB_OK exactly if it has none; SB_FAULT with the fault; SB_BAD_CALL exactly if a worker makes no such copy. Does not allocate. */

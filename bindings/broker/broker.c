@@ -16,6 +16,7 @@
 #include <stdlib.h>
 #include <string.h>
 #include <sys/mman.h>
+#include <sys/prctl.h>
 #include <sys/socket.h>
 #include <sys/syscall.h>
 #include <sys/wait.h>
@@ -32,10 +33,6 @@
 #define STATUS_OBJECT_NAME_NOT_FOUND 0xc0000034
 #define STATUS_INSUFFICIENT_RESOURCES 0xc000009a
 #define STATUS_NOT_SUPPORTED 0xc00000bb
-
-/* The numbers of calls that this host performs. */
-#define PING 1
-#define FILE_OPEN 3
 
 /* The bits of an access that write: write data, append data, generic write and generic all. */
 #define WRITING 0x50000006
@@ -203,9 +200,9 @@ static void answer(struct broker *b) {
     switch (decision.outcome) {
     case SB_PERFORMED:
         b->performed++;
-        if (decision.call == FILE_OPEN) {
+        if (decision.call == SB_FILE_OPEN) {
             answer = open_file(b);
-        } else if (decision.call == PING) {
+        } else if (decision.call == SB_PING) {
             answer = ping(b);
         }
         break;
@@ -334,6 +331,8 @@ static void start_target(struct broker *b, char *program, int is_calm) {
         fail("fork");
     }
     if (b->child == 0) {
+        /* The target does not outlive its broker. */
+        prctl(PR_SET_PDEATHSIG, SIGKILL);
         /* First out of the way of the numbers that the target expects. All others are closed by exec. */
         for (int i = 0; i < 2 + CHANNELS; i++) {
             given[i] = fcntl(given[i], F_DUPFD_CLOEXEC, 64);

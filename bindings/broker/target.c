@@ -21,10 +21,6 @@
 
 #include "channels.h"
 
-/* The numbers of calls. */
-#define PING 1
-#define FILE_OPEN 3
-
 /* Access to read, and what to do with a file that is there: open it. */
 #define GENERIC_READ 0x80000000
 #define OPEN 1
@@ -100,7 +96,7 @@ static size_t block_of(uint64_t call, uint64_t mark, const char *text, uint64_t 
     }
     sb_argument string = {.is_text = 1, .length = length}, cookie = {.number = number};
     sb_argument opening[4] = {string, cookie, {.number = OPEN}, {.number = 0x40}}, pinging[2] = {cookie, string};
-    uint32_t status = call == PING ? sb_block_encode(call, mark, pinging, 2, units, length, words, 64, &count)
+    uint32_t status = call == SB_PING ? sb_block_encode(call, mark, pinging, 2, units, length, words, 64, &count)
                                    : sb_block_encode(call, mark, opening, 4, units, length, words, 64, &count);
     return status == SB_OK ? count : 0;
 }
@@ -163,9 +159,9 @@ static void *honest(void *nothing) {
     for (uint64_t n = 1;; n++) {
         uint64_t mark = n << 8;
         int opens = n % 1024 == 0, is_denied = n % 1024 == 512;
-        size_t count = opens       ? block_of(FILE_OPEN, mark, "\\docs\\plan.txt", GENERIC_READ, words)
-                       : is_denied ? block_of(FILE_OPEN, mark, "\\secret\\key.txt", GENERIC_READ, words)
-                                   : block_of(PING, mark, "hello", n & 0xffffffff, words);
+        size_t count = opens       ? block_of(SB_FILE_OPEN, mark, "\\docs\\plan.txt", GENERIC_READ, words)
+                       : is_denied ? block_of(SB_FILE_OPEN, mark, "\\secret\\key.txt", GENERIC_READ, words)
+                                   : block_of(SB_PING, mark, "hello", n & 0xffffffff, words);
         sb_call_ending ending = make_call(&call, shared->channels, words, count, 0);
         int is_own = ending.kind == SB_REPLY && ending.found == mark;
         counts->calls++;
@@ -192,7 +188,7 @@ static void *attacked(void *nothing) {
     uint64_t words[64], number;
     wait_to_go();
     for (uint64_t n = 1;; n++) {
-        size_t count = block_of(FILE_OPEN, n << 8 | 1, n & 1 ? "\\docs\\plan.txt" : "\\docs\\none.txt", GENERIC_READ, words);
+        size_t count = block_of(SB_FILE_OPEN, n << 8 | 1, n & 1 ? "\\docs\\plan.txt" : "\\docs\\none.txt", GENERIC_READ, words);
         sb_call_ending ending = make_call(&call, shared->channels + STRIDE, words, count, 20000);
         counts->attacked++;
         if (ending.kind == SB_FOREIGN) {
@@ -211,8 +207,8 @@ static void *attacked(void *nothing) {
 /* Overwrites the words of channel 1: the state, counts, ends, descriptors, the call's number, names, replies. */
 static void *attacker(void *nothing) {
     uint64_t good[64] = {0}, bad[64] = {0}, seed = 88172645463325252;
-    size_t length = block_of(FILE_OPEN, 1, "\\docs\\plan.txt", GENERIC_READ, good);
-    block_of(FILE_OPEN, 1, "\\secret\\a.tx", GENERIC_READ, bad);
+    size_t length = block_of(SB_FILE_OPEN, 1, "\\docs\\plan.txt", GENERIC_READ, good);
+    block_of(SB_FILE_OPEN, 1, "\\secret\\a.tx", GENERIC_READ, bad);
     word *state = &shared->channels[STRIDE], *block = state + 1;
     wait_to_go();
     for (;;) {
@@ -246,7 +242,7 @@ static void *attacker(void *nothing) {
                 atomic_store(state, 1 + (seed >> 40) % 5);
                 atomic_store(&shared->bell, (uint32_t)seed);
             } else {
-                atomic_store(&block[0], FILE_OPEN);
+                atomic_store(&block[0], SB_FILE_OPEN);
             }
         }
         counts->overwrites++;

@@ -13,9 +13,6 @@
 
 #include "sandbox_broker.h"
 
-/* The number of the call `file_open`: a name, and three numbers, of which the first is the access. */
-#define FILE_OPEN 3
-
 /* The words of the one channel: its state, and the 64 words of a block. */
 static _Atomic uint64_t channel[SB_CHANNEL_WORDS];
 
@@ -74,24 +71,24 @@ int main(void) {
            sb_policies_count(&policies));
     uint32_t loaded = sb_policies_load(&policies, (const uint8_t *)policy, sizeof policy - 1, &text_fault);
     printf("load %" PRIu32 ", %zu policies, find %" PRIu32 "\n", loaded, sb_policies_count(&policies), sb_policies_find(&policies, (const uint8_t *)"web", 3, &web));
-    printf("opened to be read: %" PRIu32, sb_judge(&policies, web, FILE_OPEN, arguments, 4, units, 7, &verdict));
+    printf("opened to be read: %" PRIu32, sb_judge(&policies, web, SB_FILE_OPEN, arguments, 4, units, 7, &verdict));
     printf(" line %" PRIu32 " action %" PRIu32 "\n", verdict.line, verdict.action);
     arguments[1].number = 2;
-    printf("opened to be written: %" PRIu32, sb_judge(&policies, web, FILE_OPEN, arguments, 4, units, 7, &verdict));
+    printf("opened to be written: %" PRIu32, sb_judge(&policies, web, SB_FILE_OPEN, arguments, 4, units, 7, &verdict));
     printf(" rule %" PRIu32 "\n", verdict.has_rule);
     arguments[1].number = 1;
-    printf("no such policy: %" PRIu32 "\n", sb_judge(&policies, web + 1, FILE_OPEN, arguments, 4, units, 7, &verdict));
+    printf("no such policy: %" PRIu32 "\n", sb_judge(&policies, web + 1, SB_FILE_OPEN, arguments, 4, units, 7, &verdict));
     printf("free %" PRIu32, sb_free(&policies));
     printf(" and again %" PRIu32 "\n", sb_free(&policies));
 
     /* What does not fit the call is refused, and nothing is written. */
     uint64_t block[64];
     size_t count = 0;
-    printf("too few arguments: %" PRIu32 "\n", sb_block_encode(FILE_OPEN, 1, arguments, 3, units, 7, block, 64, &count));
-    printf("string outside: %" PRIu32 "\n", sb_block_encode(FILE_OPEN, 1, arguments, 4, units, 6, block, 64, &count));
-    printf("no room: %" PRIu32 "\n", sb_block_encode(FILE_OPEN, 1, arguments, 4, units, 7, block, 8, &count));
+    printf("too few arguments: %" PRIu32 "\n", sb_block_encode(SB_FILE_OPEN, 1, arguments, 3, units, 7, block, 64, &count));
+    printf("string outside: %" PRIu32 "\n", sb_block_encode(SB_FILE_OPEN, 1, arguments, 4, units, 6, block, 64, &count));
+    printf("no room: %" PRIu32 "\n", sb_block_encode(SB_FILE_OPEN, 1, arguments, 4, units, 7, block, 8, &count));
 
-    uint32_t status = sb_block_encode(FILE_OPEN, 0x10001, arguments, 4, units, 7, block, 64, &count);
+    uint32_t status = sb_block_encode(SB_FILE_OPEN, 0x10001, arguments, 4, units, 7, block, 64, &count);
     if (status != SB_OK) {
         fail("encode", status);
     }

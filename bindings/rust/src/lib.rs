@@ -30,7 +30,10 @@
 //! assert_eq!(channel[0].load(SeqCst), 5);
 //! ```
 
+mod drafts;
 mod sys;
+
+pub use drafts::{Condition, Draft};
 
 use std::error::Error;
 use std::fmt;
@@ -401,6 +404,14 @@ pub enum Granted {
     Text(Vec<u16>),
 }
 
+fn granted(argument: &sys::Argument, units: &[u16]) -> Granted {
+    if argument.is_text == 0 {
+        Granted::Number(argument.number)
+    } else {
+        Granted::Text(units[..argument.length as usize].to_vec())
+    }
+}
+
 /// What a host answers to a call that it performed.
 #[derive(Clone, Copy, Debug, Default, PartialEq, Eq)]
 pub struct Answer {
@@ -529,9 +540,36 @@ impl Worker {
                 units.len(),
             )
         } {
-            sys::OK if argument.is_text == 0 => Some(Granted::Number(argument.number)),
-            sys::OK => Some(Granted::Text(units[..argument.length as usize].to_vec())),
+            sys::OK => Some(granted(&argument, &units)),
             _ => None,
+        }
+    }
+
+    /// The arguments of the call that the copy to answer asks for, whatever is decided of it: for logs, and never to be performed. None if there is no copy to
+    /// answer, or it has a fault.
+    ///
+    /// # Errors
+    /// `NoMemory`.
+    pub fn asked(&mut self) -> Result<Option<Vec<Granted>>, Refused> {
+        let mut asked = Vec::new();
+        loop {
+            let (mut argument, mut units) = (sys::Argument::default(), [0u16; 256]);
+            // SAFETY: the pointer goes with its length, and the handle and the argument are other places.
+            match unsafe {
+                sys::sb_worker_asked(
+                    &mut self.0,
+                    asked.len() as u32,
+                    &mut argument,
+                    units.as_mut_ptr(),
+                    units.len(),
+                )
+            } {
+                sys::OK => asked.push(granted(&argument, &units)),
+                sys::NO_MEMORY => return Err(Refused::NoMemory),
+                // Each call has an argument, so a copy without one asks for none.
+                _ if asked.is_empty() => return Ok(None),
+                _ => return Ok(Some(asked)),
+            }
         }
     }
 

@@ -160,6 +160,13 @@ extern "C" {
         units: *mut u16,
         room: usize,
     ) -> u32;
+    pub fn sb_worker_asked(
+        worker: *mut Handle,
+        number: u32,
+        argument: *mut Argument,
+        units: *mut u16,
+        room: usize,
+    ) -> u32;
     pub fn sb_worker_reply(worker: *mut Handle, answer: *const HostAnswer) -> u32;
     pub fn sb_block_check(
         count: u64,

@@ -1,8 +1,8 @@
 //! Calls on one channel in this process, whose broker is played by the test.
 use sandbox_broker::{
     check, pattern_literal, string_literal, version, Action, Answer, Argument, Block, Call,
-    Checked, Decision, Ending, Granted, NotLoaded, Number, Policies, Refused, Step, Verdict,
-    Worker, WorkerStep,
+    Checked, Condition, Decision, Draft, Ending, Granted, NotLoaded, Number, Policies, Refused,
+    Step, Verdict, Worker, WorkerStep,
 };
 
 /// The words of one channel: its state, and the 64 words of a block.
@@ -260,4 +260,162 @@ fn a_worker_answers_a_call_by_a_policy() {
             ..
         })
     ));
+}
+
+/// Makes the steps of a worker until its answer, or until it has looked twice at the channel and found nothing.
+fn come_to_the_answer(worker: &mut Worker, channel: &mut Channel) -> bool {
+    let mut looks = 0;
+    while looks < 2 {
+        match worker.plan() {
+            WorkerStep::Word(step) => {
+                let found = channel.make(step);
+                looks += u32::from(matches!(step, Step::Load { word: 0, .. }) && found != 3);
+                worker.after(found).unwrap();
+            }
+            WorkerStep::Take | WorkerStep::Give => worker.after(1).unwrap(),
+            WorkerStep::Answer => return true,
+        }
+    }
+    false
+}
+
+/// A channel on which this call is handed over.
+fn handed_over(block: &Block) -> Channel {
+    let mut channel = Channel::free();
+    channel.0[1..1 + block.words().len()].copy_from_slice(block.words());
+    channel.0[0] = 3;
+    channel
+}
+
+#[test]
+fn what_is_asked_for_is_told_whatever_is_granted() {
+    let text = "sandbox-policy 2\npolicy web\nreadonly file.open when name like \"\\docs\\*\"\n";
+    let mut policies = Policies::load(text).unwrap();
+    let arguments = [
+        Argument::Text("\\docs\\a"),
+        Argument::Number(0x4000_0001),
+        Argument::Number(1),
+        Argument::Number(0),
+    ];
+    let mut channel = handed_over(&Block::new(Number::FileOpen, 1, &arguments).unwrap());
+    let mut worker = Worker::new(1).unwrap();
+    assert_eq!(worker.asked(), Ok(None));
+    assert!(come_to_the_answer(&mut worker, &mut channel));
+    let with_access = |access| {
+        vec![
+            Granted::Text("\\docs\\a".encode_utf16().collect()),
+            Granted::Number(access),
+            Granted::Number(1),
+            Granted::Number(0),
+        ]
+    };
+    assert_eq!(worker.asked(), Ok(Some(with_access(0x4000_0001))));
+    let decided = worker.decide(&mut policies, 0).unwrap();
+    assert!(
+        matches!(&decided, Decision::Performed { arguments, .. } if *arguments == with_access(1))
+    );
+    assert_eq!(worker.asked(), Ok(Some(with_access(0x4000_0001))));
+    worker.reply(&Answer::default()).unwrap();
+    assert_eq!(worker.asked(), Ok(None));
+}
+
+#[test]
+fn a_copy_with_a_fault_asks_for_nothing() {
+    let mut policies = Policies::load("sandbox-policy 1\npolicy web\nallow ping\n").unwrap();
+    let mut channel = handed_over(&query());
+    channel.0[1] = 99;
+    let mut worker = Worker::new(1).unwrap();
+    assert!(come_to_the_answer(&mut worker, &mut channel));
+    assert_eq!(worker.asked(), Ok(None));
+    assert_eq!(
+        worker.decide(&mut policies, 0),
+        Ok(Decision::Refused { fault: 7 })
+    );
+}
+
+#[test]
+fn a_channel_of_a_worker_given_up_is_adopted_and_its_call_is_lost() {
+    // The worker is given up between the decision and the reply, when the host may have performed the call.
+    let mut policies = Policies::load("sandbox-policy 1\npolicy web\nallow file.query\n").unwrap();
+    let mut channel = handed_over(&query());
+    let mut worker = Worker::new(1).unwrap();
+    assert!(come_to_the_answer(&mut worker, &mut channel));
+    assert!(matches!(
+        worker.decide(&mut policies, 0),
+        Ok(Decision::Performed { .. })
+    ));
+    drop(worker);
+    let mut adopting = Worker::adopt(1).unwrap();
+    assert!(!come_to_the_answer(&mut adopting, &mut channel));
+    assert_eq!(channel.0[0], 5);
+    // A host that frees the channel then, as it did at the start, is served again.
+    channel = handed_over(&query());
+    assert!(come_to_the_answer(&mut adopting, &mut channel));
+}
+
+#[test]
+fn drafts_are_loaded_and_mean_what_they_say() {
+    let mut draft = Draft::new();
+    assert_eq!(draft.policy("a b"), Err(Refused::Unfit));
+    draft.policy("tab").unwrap();
+    let unfit = Condition::Has("access has 1\nallow ping when cookie", 1);
+    assert_eq!(
+        draft.rule(Action::Allow, Number::FileOpen, &[unfit]),
+        Err(Refused::Unfit)
+    );
+    let folders = [
+        Condition::IsBelow("name", "\\ok\"\nallow ping"),
+        Condition::IsBelow("name", "\\*"),
+    ];
+    for folder in folders {
+        assert_eq!(
+            draft.rule(Action::Allow, Number::FileQuery, &[folder]),
+            Err(Refused::NoLiteral)
+        );
+    }
+    let conditions = [
+        Condition::IsBelow("name", "\\docs?"),
+        Condition::HasNone("access", 0x5fed_ff56),
+    ];
+    draft
+        .rule(Action::Allow, Number::FileOpen, &conditions)
+        .unwrap();
+    draft
+        .rule(
+            Action::Deny,
+            Number::Ping,
+            &[
+                Condition::IsSame("text", "*"),
+                Condition::IsOneOf("cookie", &[1, 2]),
+            ],
+        )
+        .unwrap();
+    draft.rule(Action::Allow, Number::Ping, &[]).unwrap();
+    let mut policies = Policies::load(draft.text()).unwrap();
+    let rule = |line, action| Ok(Verdict::Rule { line, action });
+    let mut open = |name, access| {
+        policies.judge(
+            0,
+            Number::FileOpen,
+            &[
+                Argument::Text(name),
+                Argument::Number(access),
+                Argument::Number(0),
+                Argument::Number(0),
+            ],
+        )
+    };
+    assert_eq!(open("\\DOCS?\\a", 1), rule(3, Action::Allow));
+    assert_eq!(open("\\docsx\\a", 1), Ok(Verdict::NoRule));
+    assert_eq!(open("\\docs?\\a", 2), Ok(Verdict::NoRule));
+    let mut ping = |cookie, text| {
+        policies.judge(
+            0,
+            Number::Ping,
+            &[Argument::Number(cookie), Argument::Text(text)],
+        )
+    };
+    assert_eq!(ping(2, "*"), rule(4, Action::Deny));
+    assert_eq!(ping(3, "*"), rule(5, Action::Allow));
+    assert_eq!(ping(2, "x"), rule(5, Action::Allow));
 }

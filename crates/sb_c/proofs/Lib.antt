@@ -5,3 +5,5 @@ pub mod TwoWords
 pub mod Content
 pub mod FaultLemmas
 pub mod DecisionLemmas
+pub mod Performing
+pub mod ExportCalls

@@ -1,11 +1,12 @@
 -- A status by its number.
 use Rattle.std.proofs.Common.{ℕ, List, None, Some}
-use Rattle.std.specs.Prelude.{Option}
+use Rattle.std.specs.Prelude.{Option, slice_get}
 use Rattle.sb_c.specs.Statuses.{status_number, status_of}
 use Rattle.sb_rule.specs.declared.policies.Policy.{Policy}
 use Rattle.sb_host.specs.HostWorkers.{HostAt}
 use Rattle.sb_c.specs.Blocks.{CallOfC, IsLaid, IsNoBlock}
-use Rattle.sb_c.specs.Decisions.{IsArgument, IsDecided, IsUndecided}
+use Rattle.sb_block.specs.declared.calls.Call.{Call}
+use Rattle.sb_c.specs.Decisions.{IsArgument, IsAsked, IsDecided, IsUndecided, asked_args}
 use Rattle.sb_c.specs.Policies.{IsNameShown}
 use Rattle.sb_c.specs.declared.shapes.Argument.{Argument}
 use Rattle.sb_c.specs.declared.shapes.CopyDecision.{CopyDecision}
@@ -99,3 +100,30 @@ argument_as None room shown units Fault x = absurd x
 argument_as None room shown units NoRoom x = absurd x
 argument_as None room shown units NoLiteral x = absurd x
 argument_as None room shown units TooBig x = absurd x
+
+-- no memory is no status of an argument that is there
+never_memory : (given : Option Arg) (room : ℕ) (shown : Argument) (units : List ℕ) → IsArgument given room shown units (Some NoMemory) → ⊥
+never_memory (Some (Num n)) room shown units x = x
+never_memory (Some (Str us)) room shown units x = x
+never_memory None room shown units x = x
+
+-- an argument of a call that is asked for is shown as one that is granted
+pub asked_argument : (call : Option Call) (number room : ℕ) (shown : Argument) (units : List ℕ) (s : Status)
+    → IsArgument (slice_get (asked_args call) number) room shown units (Some s) → IsAsked call number room shown units (Some s)
+asked_argument call number room shown units Ok x = x
+asked_argument call number room shown units BadCall x = x
+asked_argument call number room shown units NoMemory x = absurd (never_memory (slice_get (asked_args call) number) room shown units x)
+asked_argument call number room shown units Fault x = x
+asked_argument call number room shown units NoRoom x = x
+asked_argument call number room shown units NoLiteral x = x
+asked_argument call number room shown units TooBig x = x
+
+pub asked_as : (call : Option Call) (number room : ℕ) (shown : Argument) (units : List ℕ) (s : Status) → IsAsked call number room shown units (Some s)
+    → IsAsked call number room shown units (status_of (status_number s))
+asked_as call number room shown units Ok x = x
+asked_as call number room shown units BadCall x = x
+asked_as call number room shown units NoMemory x = x
+asked_as call number room shown units Fault x = x
+asked_as call number room shown units NoRoom x = x
+asked_as call number room shown units NoLiteral x = x
+asked_as call number room shown units TooBig x = x

@@ -1,5 +1,6 @@
 -- What is decided of a copy, as C sees it.
-use Rattle.std.specs.Prelude.{◌≡◌, ◌<◌, ℕ, true, false, is_some, min, List, [], length, slice_index, take, Option, None, Some}
+use Rattle.std.specs.Prelude.{◌≡◌, ◌<◌, ℕ, true, false, is_some, min, List, [], length, slice_get, slice_index, take, Option, None, Some}
+use Rattle.sb_block.specs.declared.calls.Call.{Call}
 use Rattle.sb_call.specs.Tags.{number_of}
 use Rattle.sb_call.specs.declared.arguments.Arg.{Arg}
 use Rattle.sb_call.specs.declared.arguments.Arg.TheVariants.{Num, Str}
@@ -73,3 +74,17 @@ IsArgument (Some (Str us)) room shown units (Some status.Ok) =
 IsArgument (Some (Str us)) room shown units (Some status.NoRoom) = min room 4294967295 < length us
 IsArgument None room shown units (Some status.BadCall) = Unit {0}
 IsArgument given room shown units _ = ⊥
+
+-- the call that the copy of a worker asks for, whatever is decided of it
+abbrev pub asked_by : Option HostAt → Option Call
+asked_by None = None
+asked_by (Some h) = asked h
+
+abbrev pub asked_args : Option Call → List Arg
+asked_args None = []
+asked_args (Some call) = call.args
+
+-- the status of an argument that is asked for: that of an argument which is granted, or there was no memory for the call
+abbrev pub IsAsked : Option Call → ℕ → ℕ → Argument → List ℕ → Option Status → Type 0
+IsAsked call number room shown units (Some status.NoMemory) = is_some call ≡ true
+IsAsked call number room shown units s = IsArgument (slice_get (asked_args call) number) room shown units s

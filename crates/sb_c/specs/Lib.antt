@@ -11,3 +11,5 @@ pub mod Policies
 pub mod Verdicts
 pub mod Workers
 pub mod Decisions
+pub mod Spaces
+pub mod ExportLaws

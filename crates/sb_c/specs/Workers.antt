@@ -25,6 +25,7 @@ told_by tell otherwise (Some h) = tell h
 abbrev pub changed : (HostAt → HostAt) → Content → Content
 changed f (held.Worker h) = held.Worker (f h)
 changed f (held.Policies set) = held.Policies set
+changed f (held.Space ns) = held.Space ns
 
 abbrev pub with_worker : (HostAt → HostAt) → Option Content → Option Content
 with_worker f None = None

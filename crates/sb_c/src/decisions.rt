@@ -1,9 +1,9 @@
 // What is decided of a copy, the arguments that are granted, and the reply.
 ghost use Rattle.std.specs.Prelude.{◌≡◌, ◌<◌, IfErr, IfOk, OnErr, OnOk, Some, length, option_map, true, slice_get};
 ghost use Rattle.sb_rule.specs.Verdicts.{policy_at};
-ghost use Rattle.sb_host.specs.HostWorkers.{after_answer, after_decision, can_decide, can_reply};
+ghost use Rattle.sb_host.specs.HostWorkers.{after_answer, after_decision, asked, can_decide, can_reply};
 ghost use Rattle.sb_c.specs.Contents.{policies_in, worker_in};
-ghost use Rattle.sb_c.specs.Decisions.{IsArgument, IsDecided, IsShown, IsUndecided, decision_shown, granted_in, ruling_shown};
+ghost use Rattle.sb_c.specs.Decisions.{IsArgument, IsAsked, IsDecided, IsShown, IsUndecided, asked_by, decision_shown, granted_in, ruling_shown};
 ghost use Rattle.sb_c.specs.Handles.{content};
 ghost use Rattle.sb_c.specs.Statuses.{done_or_bad, status_number, status_of};
 ghost use Rattle.sb_c.specs.Workers.{answer_in, is_worker, with_worker};
@@ -15,6 +15,7 @@ use crate::shapes::{Argument, CallVerdict, CopyDecision, HostAnswer};
 use crate::statuses::{Status, done_or_bad};
 use crate::verdicts::verdict_shown;
 use arrayvec::ArrayVec;
+use sb_base::NoMemory;
 use sb_book::Ruling;
 use sb_call::{Answer, Arg, Extended};
 use sb_host::{HostWorker, PolicySet, Undecided};
@@ -203,6 +204,52 @@ pub extern "C" fn sb_worker_argument(
     status.number()
 }
 
+// Shows an argument of the call that the copy of a worker asks for.
+#[tactic(auto, using(crate::proofs::StatusLemmas::asked_argument))]
+fn show_asked(
+    alloc: Global,
+    host: &HostWorker,
+    number: u32,
+    argument: &mut Argument,
+    units: &mut [u16],
+) -> Status
+    ensures status { IsAsked (asked host.now) number (length units.old) argument.new units.new (Some result) }
+    ensures same { 0 < status_number result → (argument.new ≡ argument.old) × (units.new ≡ units.old) }
+{
+    match host.asked(alloc) {
+        Ok(Some(call)) => show(call.args.as_slice().get(number as usize), argument, units),
+        Ok(None) => Status::BadCall,
+        Err(NoMemory) => Status::NoMemory,
+    }
+}
+
+/// Writes the argument with this number, from 0, of the call that the copy to answer asks for, whatever is decided of it; a string is put at the front of the
+/// units. It is for logs, and must never be performed. A bad call exactly if there is no worker with a copy to answer that asks for a call, or the call has
+/// fewer arguments; `NoRoom` as for an argument that is granted.
+#[unsafe(no_mangle)]
+#[tactic(auto, using(crate::proofs::StatusLemmas::asked_as))]
+pub extern "C" fn sb_worker_asked(
+    alloc: Global,
+    worker: &mut Handle,
+    number: u32,
+    argument: &mut Argument,
+    units: &mut [u16],
+) -> u32
+    ensures status { IsAsked (asked_by (worker_in (content worker.old))) number (length units.old) argument.new units.new (status_of result) }
+    ensures unwritten { 0 < result → (argument.new ≡ argument.old) × (units.new ≡ units.old) }
+    ensures same { content worker.new ≡ content worker.old }
+{
+    let Some(held) = worker.take(alloc) else {
+        return Status::BadCall.number();
+    };
+    let status = match held.worker() {
+        Some(host) => show_asked(alloc, host, number, argument, units),
+        None => Status::BadCall,
+    };
+    worker.put(held);
+    status.number()
+}
+
 // What a host answers, with at most seven extended words.
 fn answer_in(answer: &HostAnswer) -> Answer
     ensures { result ≡ answer_in answer.now }
@@ -229,7 +276,7 @@ pub extern "C" fn sb_worker_reply(alloc: Global, worker: &mut Handle, answer: &H
     };
     let done = match &mut *held {
         Held::Worker(host) => host.reply(&answer_in(answer)),
-        Held::Policies(_) => false,
+        Held::Policies(_) | Held::Space(_) => false,
     };
     worker.put(held);
     done_or_bad(done)

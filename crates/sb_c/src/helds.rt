@@ -3,6 +3,7 @@ ghost use Rattle.std.specs.Prelude.{◌≡◌, option_map};
 ghost use Rattle.sb_c.specs.Contents.{set_of, worker_of};
 
 use sb_host::{HostWorker, PolicySet};
+use sb_kernel::Kernel;
 
 /// What a handle may hold.
 #[derive(Drop)]
@@ -11,6 +12,8 @@ pub(crate) enum Held {
     Policies(PolicySet),
     /// The worker of a target.
     Worker(HostWorker),
+    /// A namespace in which calls are performed.
+    Space(Kernel),
 }
 
 impl Held {
@@ -20,7 +23,7 @@ impl Held {
     {
         match self {
             Held::Policies(set) => Some(set),
-            Held::Worker(_) => None,
+            Held::Worker(_) | Held::Space(_) => None,
         }
     }
 
@@ -30,7 +33,7 @@ impl Held {
     {
         match self {
             Held::Worker(host) => Some(host),
-            Held::Policies(_) => None,
+            Held::Policies(_) | Held::Space(_) => None,
         }
     }
 }

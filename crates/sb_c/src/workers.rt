@@ -122,7 +122,7 @@ pub extern "C" fn sb_worker_after(alloc: Global, worker: &mut Handle, found: u64
     };
     let done = match &mut *held {
         Held::Worker(host) => after(host, found),
-        Held::Policies(_) => false,
+        Held::Policies(_) | Held::Space(_) => false,
     };
     worker.put(held);
     done_or_bad(done)
@@ -158,7 +158,7 @@ pub extern "C" fn sb_worker_loaded(alloc: Global, worker: &mut Handle, values: &
     };
     let done = match &mut *held {
         Held::Worker(host) => host.loaded(values),
-        Held::Policies(_) => false,
+        Held::Policies(_) | Held::Space(_) => false,
     };
     worker.put(held);
     done_or_bad(done)
@@ -213,7 +213,7 @@ pub extern "C" fn sb_worker_stored(alloc: Global, worker: &mut Handle, count: u3
     };
     let done = match &mut *held {
         Held::Worker(host) => host.stored(count),
-        Held::Policies(_) => false,
+        Held::Policies(_) | Held::Space(_) => false,
     };
     worker.put(held);
     done_or_bad(done)

@@ -8,6 +8,8 @@ pub mod CallSteps
 pub mod CallRanges
 pub mod ChannelRuns
 pub mod CallerSteps
+pub mod WorkerSteps
+pub mod Crossing
 pub mod Histories
 pub mod Copying
 pub mod Adopting

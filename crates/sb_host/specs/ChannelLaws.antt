@@ -1,16 +1,20 @@
 -- A run on the channels of one target, between its worker, callers that use the library and wait for ever, and others that store into no channel.
-use Rattle.std.specs.Prelude.{◌≡◌, ℕ, ◌*◌, ◌≤◌, Bool, true, false, List, [], ◌∷◌, ◌++◌, length, map, replicate, slice_index, slice_set, Some}
+use Rattle.std.specs.Prelude.{◌≡◌, ℕ, ◌*◌, ◌<◌, ◌≤◌, Bool, true, false, List, [], ◌∷◌, ◌++◌, length, map, replicate, slice_index, slice_set, None, Some}
 use mathlib.Core.Option.{some}
 use lib.ListN.{get_elem?}
+use Rattle.sb_call.specs.declared.replies.Answer.{Answer as HostAnswer}
 use Rattle.sb_actor.specs.Laws.{AreFirst, Opened, first_worker, words_after}
-use Rattle.sb_actor.specs.Following.{act_word, act_wrote}
+use Rattle.sb_actor.specs.Following.{Tells, act_word, act_wrote}
 use Rattle.sb_actor.specs.Moves.{Deed, IsBlock, ThreadMay, WorkerMay, met, thread_view, worker_view, wrote}
-use Rattle.sb_actor.specs.Ranges.{IsSoundThreadStage}
+use Rattle.sb_actor.specs.Observations.{Observation}
+use Rattle.sb_actor.specs.Ranges.{IsSoundStage, IsSoundThreadStage}
 use Rattle.sb_actor.specs.Rule.{as_served, calls_of}
 use Rattle.sb_actor.specs.ThreadStages.{ThreadStage, Try, Fill, Send, Wait, Fetch, Free, Abandon, Stray, Over}
-use Rattle.sb_actor.specs.Ties.{thread_deed, thread_place_of}
+use Rattle.sb_actor.specs.Ties.{HoldsWorker, thread_deed, thread_place_of, worker_deed}
 use Rattle.sb_actor.specs.Views.{EndedCall, ThreadView, WorkerView}
 use Rattle.sb_host.specs.Calls.{CallAt, call_after, call_plan}
+use Rattle.sb_host.specs.HostWorkers.{HostAt, after_answer, after_decision, after_step, host_plan, is_taking_over}
+use Rattle.sb_rule.specs.declared.policies.Policy.{Policy}
 
 -- the words of all channels of a target, and what is seen of its worker and of its callers
 pub record Channels : Type 0 where
@@ -88,3 +92,34 @@ pub record CallGoes (v : ThreadView) (y : CallAt) (d : Deed) (n : ℕ) : Type 0 
 abbrev pub CallsGoAsCallers : Type 0
 CallsGoAsCallers = (v : ThreadView) (y : CallAt) (d : Deed) (n : ℕ) → ShowsCall v y → WaitsForEver v.number y → thread_deed y.block y.stage ≡ Some d
     → CallGoes v y d n
+
+-- the view of a worker shows that of a host, which takes over no channel; it is at one of its channels, and its copy and its reply are sound
+pub record ShowsHost (v : WorkerView) (h : HostAt) : Type 0 where
+  pub worker : HoldsWorker v h.worker
+  pub channel_there : h.worker.channel < h.worker.channels
+  pub sound : IsSoundStage h.worker.stage
+  pub serves : is_taking_over h ≡ false
+
+-- a host's step of this kind, which found n: its worker may make it, the word is written as that kind writes it, and the view after it shows the worker
+-- as the host then has it
+pub record HostGoes (v : WorkerView) (h : HostAt) (d : Deed) (n : ℕ) (seen : Observation) : Type 0 where
+  pub may : WorkerMay v v.place (act_word (host_plan h)) d
+  pub writes : act_wrote (host_plan h) n ≡ wrote d (met d n) n
+  pub holds : HoldsWorker (worker_view v d n) (after_step h seen).worker
+
+-- the steps of a host on words are ones that a worker may make in such a run
+abbrev pub HostsGoAsWorkers : Type 0
+HostsGoAsWorkers = (v : WorkerView) (h : HostAt) (d : Deed) (n : ℕ) (seen : Observation) → ShowsHost v h → worker_deed h.worker.stage ≡ Some d
+    → Tells (host_plan h) n seen → HostGoes v h d n seen
+
+-- its steps on the turn leave the view as it is
+abbrev pub TurnsAreUnseen : Type 0
+TurnsAreUnseen = (v : WorkerView) (h : HostAt) (seen : Observation) → ShowsHost v h → worker_deed h.worker.stage ≡ None → HoldsWorker v (after_step h seen).worker
+
+-- so do its decisions
+abbrev pub DecisionsAreUnseen : Type 0
+DecisionsAreUnseen = (v : WorkerView) (h : HostAt) (policy : Policy) → ShowsHost v h → HoldsWorker v (after_decision h policy).worker
+
+-- and its answers
+abbrev pub AnswersAreUnseen : Type 0
+AnswersAreUnseen = (v : WorkerView) (h : HostAt) (answer : HostAnswer) → ShowsHost v h → HoldsWorker v (after_answer h answer).worker

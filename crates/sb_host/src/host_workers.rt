@@ -6,6 +6,7 @@ ghost use Rattle.sb_book.specs.Decisions.{decision_of, is_fitting};
 ghost use Rattle.sb_book.specs.Histories.{space_after};
 ghost use Rattle.sb_book.specs.Rulings.{ruling_of};
 ghost use Rattle.sb_actor.specs.Acts.{observation};
+ghost use Rattle.sb_actor.specs.Ranges.{IsSoundStage};
 ghost use Rattle.sb_host.specs.Replies.{IsSpaceAnswer, takes_space};
 ghost use Rattle.sb_host.specs.Moves.{left_after, place_of};
 ghost use Rattle.sb_host.specs.HostWorkers.{host_start, host_adopt, host_plan, is_answer, is_taking_over, copy_to_answer, after_step, host_moves, is_copying, can_load, can_store, place_to_store, after_loads, after_stores, values_to_store, can_decide, IsUnfit, LacksMemory, after_decision, granted_args, asked, can_reply, after_answer, after_performing, space_after_performing, takes_space_for};
@@ -126,6 +127,16 @@ impl HostWorker {
             left: 0,
             reply: [0; REPLY_LENGTH],
         }
+    }
+
+    /// What holds of the worker of every host: it is at one of its 1 to 8 channels, and its copy and its reply are sound. It does nothing: its contract is
+    /// the facts.
+    pub fn establish_sound(&self)
+        ensures within { self.now.worker.channel < self.now.worker.channels }
+        ensures few { self.now.worker.channels ≤ 8 }
+        ensures stage { IsSoundStage self.now.worker.stage }
+    {
+        self.worker.establish_sound();
     }
 
     fn is_taking_over(&self) -> bool

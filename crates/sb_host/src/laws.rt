@@ -1,12 +1,12 @@
 // Laws of hosts. None of these functions does anything: each contract is a law.
 ghost use Rattle.sb_host.specs.AdoptLaws.{AdoptingEndsAsNew, AdoptingGivesUp, AdoptingLeavesNoneReady};
 ghost use Rattle.sb_host.specs.Calls.{CallsStepAsThreads};
-ghost use Rattle.sb_host.specs.ChannelLaws.{CallsGoAsCallers, CallsHaveTheirReplies};
+ghost use Rattle.sb_host.specs.ChannelLaws.{AnswersAreUnseen, CallsGoAsCallers, CallsHaveTheirReplies, DecisionsAreUnseen, HostsGoAsWorkers, TurnsAreUnseen};
 ghost use Rattle.sb_host.specs.HistoryLaws.{HostsKeepTheSpace, HostsMakeHistories, HostsReplyAsEntries};
 ghost use Rattle.sb_host.specs.HostLaws.{AdoptingHostsAreTrue, NewHostsAreTrue, PerformingIsAnswering};
 ghost use Rattle.sb_host.specs.Replies.{HostsReplyAsBooks};
 
-use sb_actor::{starts_in_rule, thread_keeps_rule, worker_keeps_rule};
+use sb_actor::{starts_in_rule, thread_keeps_rule, worker_follows, worker_keeps_rule};
 
 /// Whatever is in memory, and in whatever order a host calls: the copy that a worker answers has the words that were loaded since the last
 /// answer; what is decided of it, with the arguments that are granted, is the decision of the policy that was given since, on that copy;
@@ -62,6 +62,19 @@ pub fn calls_have_their_replies()
 pub fn calls_go_as_callers()
     ensures { CallsGoAsCallers }
 {}
+
+/// Each step of a host on a word, if its worker takes over no channel, is one that a worker may make in such a run, and what is seen of the worker goes on
+/// as the host does. Its steps on the turn, its decisions and its answers change nothing that is seen. Each value of `HostWorker` is as these laws require
+/// (`HostWorker::establish_sound`).
+#[tactic(auto, using(crate::proofs::WorkerSteps::as_workers, crate::proofs::WorkerSteps::turns_unseen, crate::proofs::WorkerSteps::decisions_unseen, crate::proofs::WorkerSteps::answers_unseen))]
+pub fn hosts_go_as_workers()
+    ensures words { HostsGoAsWorkers }
+    ensures turns { TurnsAreUnseen }
+    ensures decisions { DecisionsAreUnseen }
+    ensures answers { AnswersAreUnseen }
+{
+    worker_follows();
+}
 
 /// Each step of a call in plain memory is that of a thread of a script whose call has the same mark and block: it plans the same step and,
 /// whatever that finds, goes on to the same stage or ends with the same result. With patience 0 it waits as a thread waits on a clean

@@ -17,7 +17,8 @@ pub use calls::ClientCall;
 pub use host_workers::{HostWorker, Undecided};
 pub use laws::{
     adopting_gives_calls_up, calls_go_as_callers, calls_have_their_replies, calls_step_as_threads,
-    hosts_are_true_to_what_they_told, hosts_make_histories, performing_is_answering,
+    hosts_are_true_to_what_they_told, hosts_go_as_workers, hosts_make_histories,
+    performing_is_answering,
 };
 pub use literals::{LiteralRefused, pattern_literal, string_literal};
 pub use policy_sets::PolicySet;
