@@ -1,7 +1,7 @@
 #!/usr/bin/env python3
 """Runs the commands that the documents and the examples show, and compares what they print: examples.py [PROGRAM..].
 
-The sessions (`.ci/sessions.py`) of README.md and docs/ are run, and those of the files examples/NAME.expected. It is a fault if
+The sessions (`.ci/sessions.py`) of README.md, docs/ and bench/GENERATED.md are run, and those of the files examples/NAME.expected. It is a fault if
 
 - a command prints another text than the one beside it;
 - a block of a document shows a command of `sandbox`, or lines that it prints, and does not begin with `$ `;
@@ -21,7 +21,7 @@ sys.dont_write_bytecode = True
 
 from sessions import TOP, commands_in, difference, fenced_or_indented, furnish, programs, run, text_of
 
-DOCUMENTS = ["README.md"] + sorted(glob.glob("docs/*.md", root_dir=TOP))
+DOCUMENTS = ["README.md", "bench/GENERATED.md"] + sorted(glob.glob("docs/*.md", root_dir=TOP))
 EXPECTED = sorted(glob.glob("examples/*.expected", root_dir=TOP))
 # a line of a block that is a command of the program, or one that the program prints
 COMMAND = re.compile(r"(?:\$ )?(?:\./)?sandbox [a-z-]")

@@ -1,9 +1,9 @@
 #!/usr/bin/env python3
 """The crates of crates.txt and what each of them uses. Each script that asks for either reads it here.
 
-    .ci/graph.py CRATE
+    .ci/graph.py CRATE [--kit]
 
-prints the crates below one, and itself.
+prints the crates below one, and itself; with --kit the libraries of the kit that these use.
 """
 import os
 import sys
@@ -43,5 +43,11 @@ def below(uses, crate):
     return found
 
 
+def kit_libraries(crate):
+    """The libraries of the kit that one crate, or one below it, uses."""
+    uses = libraries()
+    return {name for each in below(read_crates(), crate) for name in uses[each] if name not in uses}
+
+
 if __name__ == "__main__":
-    print("\n".join(sorted(below(read_crates(), sys.argv[1]))))
+    print("\n".join(sorted(kit_libraries(sys.argv[1]) if "--kit" in sys.argv[2:] else below(read_crates(), sys.argv[1]))))

@@ -1,6 +1,6 @@
 """`audit` of transcripts that `replay` wrote: one of 4 MiB with mixed calls, the longest of pings, and one of the longest that there are.
 
-Each has a bound of seconds, and the first and the last one of memory, on one processor of the machine whose figures docs/CONTRIBUTING.md gives.
+Each has a bound of seconds, and the first and the last one of memory, on one processor of the machine whose figures bench/RESULTS.md gives.
 """
 import os
 

@@ -1,7 +1,7 @@
 """Runs by threads: `sandbox run` and `sandbox make`, in seconds of a clock, since they start threads; so these times say little on a
 busy machine.
 
-Each work has a bound of seconds, and one of memory where it says so. A bound holds of the machine whose figures docs/CONTRIBUTING.md gives,
+Each work has a bound of seconds, and one of memory where it says so. A bound holds of the machine whose figures bench/RESULTS.md gives,
 with nothing else running. Which thread makes which step differs from run to run; what is checked of a transcript is the same in each.
 """
 import glob

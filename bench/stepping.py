@@ -1,7 +1,7 @@
 """Steps of many actors: targets, channels, threads and stores by hand.
 
 Each work has a bound of seconds, and one of memory where it says so. A bound holds of one processor of the machine whose figures
-docs/CONTRIBUTING.md gives.
+bench/RESULTS.md gives.
 """
 import os
 

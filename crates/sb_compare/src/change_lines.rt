@@ -90,7 +90,7 @@ pub(crate) fn put_call(text: &mut Vec<u8>, tag: CallTag, args: &[Arg]) -> Result
     ensures { OnOk result (text.new.items ≡ text.old.items ++ call_text tag args.now) }
 {
     text.extend_from_slice(b"call ")?;
-    text.extend_from_slice(call_word(tag))?;
+    text.extend_from_slice(call_word(tag).as_bytes())?;
     put_arguments(text, args)
 }
 

@@ -69,7 +69,7 @@ pub(crate) fn copy_line(alloc: Global, tag: CallTag, args: &[Arg]) -> Result<Vec
 {
     let mut line = Vec::new(alloc);
     line.extend_from_slice(b"  copy ")?;
-    line.extend_from_slice(call_word(tag))?;
+    line.extend_from_slice(call_word(tag).as_bytes())?;
     put_arguments(&mut line, args)?;
     line.push(b'\n')?;
     Ok(line)
@@ -171,7 +171,7 @@ pub(crate) fn granted_line(alloc: Global, tag: CallTag, args: &[Arg]) -> Result<
 {
     let mut line = Vec::new(alloc);
     line.extend_from_slice(b"  performed with ")?;
-    line.extend_from_slice(call_word(tag))?;
+    line.extend_from_slice(call_word(tag).as_bytes())?;
     put_read_only(&mut line, args)?;
     line.push(b'\n')?;
     Ok(line)

@@ -4,7 +4,7 @@ use crate::policies::set_of;
 use sb_call::{Arg, Args, CallTag, call_word, tag_of_word};
 use sb_cover::{Budget, Question, cover};
 use sb_host::PolicySet;
-use sb_rows::{RowFault, put_between, put_word};
+use sb_rows::{RowFault, put_between};
 use std::alloc::Global;
 
 // The question of the rules of a policy: which are the first that hold, as many as asked for.
@@ -22,7 +22,7 @@ fn question(set: &PolicySet, policy: usize, depth: usize) -> Result<Question, Ro
 // Appends a call as a script writes it.
 fn put_call(out: &mut String, tag: CallTag, args: &Args) -> Result<(), RowFault> {
     put_between(out, "; ")?;
-    put_word(out, call_word(tag))?;
+    out.push_str(call_word(tag))?;
     for arg in args.as_slice() {
         match arg {
             Arg::Num(number) => write!(out, " {number:#x}")?,

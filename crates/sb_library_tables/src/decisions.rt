@@ -7,7 +7,7 @@ use sb_book::Ruling;
 use sb_call::{Answer, Arg};
 use sb_host::{HostWorker, NoBlock, PolicySet, Undecided, copy_of};
 use sb_kernel::Kernel;
-use sb_rows::{RowFault, call, number, put_word};
+use sb_rows::{RowFault, call, number};
 use sb_rule::Verdict;
 use std::alloc::Global;
 
@@ -96,7 +96,7 @@ fn put_ruling(out: &mut String, ruling: Option<Ruling>) -> Result<(), RowFault> 
         }
         Some(Ruling::Faked { tag, line }) => {
             out.push_str("faked ")?;
-            put_word(out, sb_call::call_word(tag))?;
+            out.push_str(sb_call::call_word(tag))?;
             Ok(write!(out, " rule {line}")?)
         }
         Some(Ruling::Performed { tag, line, action }) => {

@@ -2,7 +2,7 @@
 
 use sb_call::CallTag;
 use sb_host::PolicySet;
-use sb_rows::{RowFault, call, put_between, put_word};
+use sb_rows::{RowFault, call, put_between};
 use sb_rule::{Verdict, WellMadePolicies};
 use sb_ruletext::{TextRefused, read_policies};
 use std::alloc::Global;
@@ -73,11 +73,11 @@ pub fn judged(alloc: Global, rules: &str, text: &str) -> Result<String, RowFault
 
 /// Appends a verdict on a call of this name.
 pub fn put_verdict(out: &mut String, tag: CallTag, verdict: Verdict) -> Result<(), RowFault> {
-    put_word(out, sb_call::call_word(tag))?;
+    out.push_str(sb_call::call_word(tag))?;
     match verdict {
         Verdict::Rule { line, action } => {
             write!(out, " rule {line} ")?;
-            put_word(out, action.word())
+            Ok(out.push_str(action.word())?)
         }
         Verdict::NoRule => Ok(out.push_str(" no rule")?),
     }

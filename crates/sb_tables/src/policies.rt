@@ -2,7 +2,7 @@
 
 use crate::inputs::{policies_of_rules, text_of_rules};
 use sb_call::{CallTag, ShortName, tag_of_word};
-use sb_rows::{RowFault, call, number, put_between, put_word, small, wide};
+use sb_rows::{RowFault, call, number, put_between, small, wide};
 use sb_rule::{
     Action, Cond, Conds, Pattern, PatternRefused, Policies, Policy, PolicyList, Rule, Rules, Test,
     Verdict, all_well_made, verdict_plain, well_made,
@@ -64,7 +64,7 @@ pub fn told_verdict(alloc: Global, verdict: Verdict) -> Result<String, RowFault>
 
 fn told_rule(alloc: Global, line: u32, action: Action) -> Result<String, RowFault> {
     let mut out = format!(in alloc; "line {line} ")?;
-    put_word(&mut out, action.word())?;
+    out.push_str(action.word())?;
     Ok(out)
 }
 
